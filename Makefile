@@ -1,0 +1,6 @@
+# `make test` is the gate: its exit status and its last line, `N passed, M failed`, are the verdict.
+
+.PHONY: test
+test:
+	rt fmt --check
+	rt ci

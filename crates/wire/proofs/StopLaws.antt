@@ -1,0 +1,81 @@
+-- Laws of ordered refusals. Assumes nothing.
+use Prim.Native.Nat.{ℕ, zero, suc, _<_, _≤_}
+use native.Mathlib.Omega.{arith}
+use mathlib.Core.Path.{_≡_, refl, sym, ap, _∙_}
+use mathlib.Core.Bool.{Bool, true, false}
+use borrow.Author.Tests.{lt-ltb, le-ltb}
+use Rattle.wire.specs.First.{first, anyBelow}
+use Rattle.wire.specs.Stop.{Stop, go, stop, _⨾_, stopWhen, stopIf, stopAt, earlier}
+use Rattle.wire.proofs.Bools.{byBool}
+use Rattle.wire.proofs.FirstLaws.{first-same, any-same, any-none, none-any}
+
+pub ⨾-go : (b : Stop) → go ⨾ b ≡ b
+unfolding _⨾_
+⨾-go b = refl
+
+pub ⨾-stop : (a b : Stop) (k : ℕ) → a .number ≡ suc k → a ⨾ b ≡ a
+unfolding _⨾_
+⨾-stop a b k e = rw (e, _⨾_)
+
+pub ⨾-next : (a b : Stop) → a .number ≡ 0 → a ⨾ b ≡ b
+unfolding _⨾_
+⨾-next a b e = rw (e, _⨾_)
+
+pub ⨾-both : (a b : Stop) → a ≡ go → b ≡ go → a ⨾ b ≡ go
+⨾-both a b p q = rw (p, q) (⨾-go go)
+
+pub ⨾-left : (a b : Stop) → (a ⨾ b) .number ≡ 0 → a .number ≡ 0
+unfolding _⨾_
+⨾-left a b e = cases (a .number) refl
+  where
+    cases : (k : ℕ) → a .number ≡ k → a .number ≡ 0
+    cases zero q = q
+    cases (suc k) q = ap (λ s. s .number) (sym (⨾-stop a b k q)) ∙ e
+
+pub ⨾-right : (a b : Stop) → (a ⨾ b) .number ≡ 0 → b .number ≡ 0
+⨾-right a b e = ap (λ s. s .number) (sym (⨾-next a b (⨾-left a b e))) ∙ e
+
+pub stopIf-go : (k : ℕ) (b : Bool) → b ≡ false → stopIf k b ≡ go
+unfolding stopIf stopWhen
+stopIf-go k b e = rw e
+
+pub stopIf-no : (k : ℕ) (b : Bool) → stopIf (suc k) b .number ≡ 0 → b ≡ false
+unfolding stopIf stopWhen
+stopIf-no k true e = absurd (omega arith)
+stopIf-no k false e = refl
+
+pub stopAt-go : (k n : ℕ) (p : ℕ → Bool) → ((i : ℕ) → i < n → p i ≡ false) → stopAt k n p ≡ go
+unfolding stopAt stopWhen
+stopAt-go k n p h = rw (any-none n p h)
+
+pub stopAt-no : (k n : ℕ) (p : ℕ → Bool) → stopAt (suc k) n p .number ≡ 0 → (i : ℕ) → i < n → p i ≡ false
+unfolding stopAt stopWhen
+stopAt-no k n p e i h =
+    byBool (anyBelow n p)
+    (λ t. absurd (let z : suc k ≡ 0 = rw t at e in omega arith))
+    (λ f. none-any n p f i h)
+
+pub stopAt-same : (k n : ℕ) (p q : ℕ → Bool) → ((i : ℕ) → i < n → p i ≡ q i) → stopAt k n p ≡ stopAt k n q
+unfolding stopAt
+stopAt-same k n p q h = rw (any-same n p q h, first-same n p q h)
+
+-- for code that has searched: r is the lowest index, or n
+pub stopAt-found : (k n : ℕ) (p : ℕ → Bool) (r : ℕ) → r ≡ first n p → r < n → stopAt k n p ≡ stop k r
+unfolding stopAt stopWhen anyBelow
+stopAt-found k n p r e h = rw (← e, lt-ltb r n h)
+
+pub stopAt-clear : (k n : ℕ) (p : ℕ → Bool) (r : ℕ) → r ≡ first n p → n ≤ r → stopAt k n p ≡ go
+unfolding stopAt stopWhen anyBelow
+stopAt-clear k n p r e h = rw (← e, le-ltb r n h)
+
+pub earlier-same : {A : Type 0} (related : A → A → Bool) (n : ℕ) (f g : ℕ → A) → ((i : ℕ) → i < n → f i ≡ g i) → (i : ℕ) → i < n → earlier related f i ≡ earlier related g i
+unfolding earlier
+earlier-same related n f g h i l = any-same i (λ j. related (f j) (f i)) (λ j. related (g j) (g i)) (λ j m. rw (h j (omega arith), h i l))
+
+pub earlier-none : {A : Type 0} (related : A → A → Bool) (f : ℕ → A) (i : ℕ) → ((j : ℕ) → j < i → related (f j) (f i) ≡ false) → earlier related f i ≡ false
+unfolding earlier
+earlier-none related f i h = any-none i (λ j. related (f j) (f i)) h
+
+pub none-earlier : {A : Type 0} (related : A → A → Bool) (f : ℕ → A) (i : ℕ) → earlier related f i ≡ false → (j : ℕ) → j < i → related (f j) (f i) ≡ false
+unfolding earlier
+none-earlier related f i e j h = none-any i (λ k. related (f k) (f i)) e j h

@@ -1,0 +1,4 @@
+pub mod Word
+pub mod Bytes
+pub mod First
+pub mod Stop
