@@ -1,6 +1,6 @@
 -- The pieces on entry IDs, by computation. Assumes nothing.
 use mathlib.Core.Path.{refl}
-use Rattle.wire.specs.Bytes.{bytes, empty, same, before}
+use Rattle.wire.specs.Bytes.{empty, same, before}
 use Rattle.entry_id.specs.Text.{every, any, agree, onFirst, splitOn, joinWith}
 use Rattle.entry_id.specs.Meaning.{fieldsOf, piecesOf, namesProcessor, fifthIsProcessor, feature, insert, sort, meaningOf, meaning, sign, piece, sixFields, canonicalOf}
 use Rattle.entry_id.specs.Meaning.{nameByte, fieldByte, kinds, signed, rising, named, shaped, proper, valid, canon}

@@ -2,19 +2,19 @@
 use Prim.Native.Nat.{ℕ}
 use Prim.Native.Char.{code}
 use mathlib.Core.Path.{_≡_, refl, sym, ap, _∙_, subst}
-use mathlib.Core.Bool.{Bool, true, false, not, _&&_}
+use mathlib.Core.Bool.{Bool, not, _&&_}
 use mathlib.Core.List.{List, [], _∷_, map}
-use lib.ListN.{length, getD, take}
+use lib.ListN.{getD}
 use lib.Dec.{T}
-use Rattle.entry_id.specs.Text.{every, any, splitOn, joinWith, agree}
+use Rattle.entry_id.specs.Text.{splitOn, joinWith, agree}
 use Rattle.wire.specs.Bytes.{same}
 use Rattle.wire.proofs.ByteLaws.{same-refl, same-eq}
-use Rattle.wire.proofs.Bools.{of-true, bool-ext}
-use Rattle.entry_id.specs.Meaning.{Feature, Meaning, piecesOf, feature, piece, sixFields, canonicalOf, meaning, valid, proper, canon}
+use Rattle.wire.proofs.Bools.{bool-ext}
+use Rattle.entry_id.specs.Meaning.{Feature, piecesOf, feature, piece, sixFields, meaning, valid, canon}
 use Rattle.entry_id.specs.Compare.{sameTarget, compatible, sameNames, sameMeaning, mixed}
 use Rattle.entry_id.proofs.ReadBack.{Proper, parts, proper-meaning, canon-is, canon-valid, canon-meaning, feature-piece, head-write, pieces-back, same-canon}
-use Rattle.entry_id.proofs.FeatureLaws.{twice-eq, eq-twice}
-use Rattle.entry_id.proofs.CompareLaws.{compat-pieces, alike-heads}
+use Rattle.entry_id.proofs.FeatureLaws.{sameMeaning-eq, eq-sameMeaning}
+use Rattle.entry_id.proofs.CompareLaws.{compatible-pieces, sameTarget-heads}
 use Rattle.entry_id.specs.Canonical.{headOf, within, unsigned, samePieceNames, compatibleText, mixedText}
 
 module _ (x : List ℕ) (v : T (valid x)) where
@@ -43,31 +43,31 @@ names-pieces (f ∷ a) (g ∷ b) =
     ∙ ap (λ (c : Bool). same (f .name) (g .name) && c) (names-pieces a b)
 
 module _ (x y : List ℕ) (v : T (valid x)) (w : T (valid y)) where
-  pub heads-alike : same (headOf (canon x)) (headOf (canon y)) ≡ sameTarget (meaning x) (meaning y)
-  heads-alike = ap (λ h. same h (headOf (canon y))) (head-canon x v) ∙ ap (λ h. same (joinWith (code "-") (sixFields (meaning x))) h) (head-canon y w)
-      ∙ sym (alike-heads (meaning x) (meaning y) (proper-meaning x v) (proper-meaning y w))
+  pub heads-sameTarget : same (headOf (canon x)) (headOf (canon y)) ≡ sameTarget (meaning x) (meaning y)
+  heads-sameTarget = ap (λ h. same h (headOf (canon y))) (head-canon x v) ∙ ap (λ h. same (joinWith (code "-") (sixFields (meaning x))) h) (head-canon y w)
+      ∙ sym (sameTarget-heads (meaning x) (meaning y) (proper-meaning x v) (proper-meaning y w))
 
   -- entry x is compatible with device y
-  pub compat-canonical : compatibleText (canon x) (canon y) ≡ compatible (meaning x) (meaning y)
+  pub compatible-canonical : compatibleText (canon x) (canon y) ≡ compatible (meaning x) (meaning y)
   unfolding compatibleText within
-  compat-canonical =
-      let p = compat-pieces (canon x) (canon y) (canon-valid x v) (canon-valid y w) in
+  compatible-canonical =
+      let p = compatible-pieces (canon x) (canon y) (canon-valid x v) (canon-valid y w) in
       let m = canon-meaning x v in
       let n = canon-meaning y w in
-      ap (λ (c : Bool). c && within (piecesOf (canon y)) (piecesOf (canon x))) (heads-alike ∙ ap (λ z. sameTarget z (meaning y)) (sym m) ∙ ap (λ z. sameTarget (meaning (canon x)) z) (sym n))
+      ap (λ (c : Bool). c && within (piecesOf (canon y)) (piecesOf (canon x))) (heads-sameTarget ∙ ap (λ z. sameTarget z (meaning y)) (sym m) ∙ ap (λ z. sameTarget (meaning (canon x)) z) (sym n))
       ∙ sym p ∙ ap (λ z. compatible z (meaning (canon y))) m ∙ ap (λ z. compatible (meaning x) z) n
 
   pub mixed-canonical : mixedText (canon x) (canon y) ≡ mixed (meaning x) (meaning y)
   unfolding mixedText mixed
   mixed-canonical =
-      ap (λ (c : Bool). c && not (samePieceNames (piecesOf (canon x)) (piecesOf (canon y)))) heads-alike
+      ap (λ (c : Bool). c && not (samePieceNames (piecesOf (canon x)) (piecesOf (canon y)))) heads-sameTarget
       ∙ ap (λ (c : Bool). sameTarget (meaning x) (meaning y) && not c)
       (ap (λ ps. samePieceNames ps (piecesOf (canon y))) (pieces-canon x v) ∙ ap (λ ps. samePieceNames (map piece (meaning x .features)) ps) (pieces-canon y w)
       ∙ names-pieces (meaning x .features) (meaning y .features))
 
   -- the same meaning: the same canonical text
-  pub twice-canonical : same (canon x) (canon y) ≡ sameMeaning (meaning x) (meaning y)
-  twice-canonical =
+  pub same-canonical : same (canon x) (canon y) ≡ sameMeaning (meaning x) (meaning y)
+  same-canonical =
       bool-ext (same (canon x) (canon y)) (sameMeaning (meaning x) (meaning y))
-      (λ t. eq-twice (meaning x) (meaning y) (same-canon x y v w .0 (same-eq (canon x) (canon y) t)))
-      (λ t. subst (λ z. T (same (canon x) z)) (same-canon x y v w .1 (twice-eq (meaning x) (meaning y) t)) (same-refl (canon x)))
+      (λ t. eq-sameMeaning (meaning x) (meaning y) (same-canon x y v w .0 (same-eq (canon x) (canon y) t)))
+      (λ t. subst (λ z. T (same (canon x) z)) (same-canon x y v w .1 (sameMeaning-eq (meaning x) (meaning y) t)) (same-refl (canon x)))

@@ -1,25 +1,24 @@
--- The definitions of `Ids` in the terms that code on one text has: positions, pieces in the order of the text, heads of canonical forms. Assumes nothing.
-use Prim.Native.Nat.{ℕ, zero, suc, _+_, _-_, _≤_, _<_}
+-- The definitions in the terms that code on one text has: positions, pieces in the order of the text, heads of canonical forms. Assumes nothing.
+use Prim.Native.Nat.{ℕ, zero, suc, _+_, _-_, _<_}
 use Prim.Native.Char.{code}
 use mathlib.Core.Path.{_≡_, refl, sym, ap, _∙_, subst}
-use mathlib.Core.Logic.{_⊎_, inl, inr, _↔_, _≢_}
-use mathlib.Core.Bool.{Bool, true, false, not, _&&_, _||_, cond, or-false}
-use mathlib.Core.List.{List, [], _∷_, _++_, map, List·Memᴰ, List·Memᴰ·head, List·Memᴰ·tail, List·Memᴰ·not-nil, List·Memᴰ·cases-cons, Memᴰ·cast, head-eq-of-cons-eq, tail-eq-of-cons-eq}
+use mathlib.Core.Logic.{inl, inr, _≢_}
+use mathlib.Core.Bool.{Bool, true, false, _&&_, _||_}
+use mathlib.Core.List.{List, [], _∷_, map, List·Memᴰ, List·Memᴰ·head, List·Memᴰ·tail, List·Memᴰ·not-nil, List·Memᴰ·cases-cons, Memᴰ·cast, head-eq-of-cons-eq, tail-eq-of-cons-eq}
 use native.Mathlib.Omega.{arith}
-use lib.ListN.{length, getD, take, drop, drop-of-length-le}
-use lib.Seq.{take-suc, take-all, drop-cons}
-use lib.Dec.{T, eqb, ltb, leb, eqb→eq, eqb-refl}
-use borrow.Author.Tests.{eq-eqb, ne-eqb, le-ltb, ltb-true, ltb-false}
+use lib.ListN.{length, getD, take, drop}
+use lib.Seq.{take-suc, take-all}
+use lib.Dec.{T, eqb, eqb→eq}
+use borrow.Author.Tests.{eq-eqb, ne-eqb}
 use Rattle.entry_id.specs.Text.{every, any, onFirst, splitOn, joinWith, agree}
 use Rattle.wire.specs.Bytes.{same, before}
-use Rattle.wire.proofs.Bools.{bool-ext, and-l, and-r, and-t, or-t, or-l, or-r, is-true, is-false, of-true, cond-ind, cases}
-use Rattle.entry_id.proofs.TextLaws.{split-join}
+use Rattle.wire.proofs.Bools.{bool-ext, and-l, and-r, and-t, or-t, or-l, or-r, cond-ind}
 use Rattle.wire.proofs.ByteLaws.{same-refl, same-eq}
-use Rattle.entry_id.specs.Meaning.{Feature, Meaning, fieldsOf, piecesOf, feature, insert, sort, meaningOf, meaning, sign, piece, sixFields, canonicalOf, signed, shaped, proper, valid, rising}
+use Rattle.entry_id.specs.Meaning.{Feature, Meaning, piecesOf, feature, insert, sort, meaningOf, meaning, sign, piece, sixFields, signed, shaped, proper, valid, rising}
 use Rattle.entry_id.specs.Theorems.{nameIn}
 use Rattle.entry_id.specs.Compare.{sameTarget, sameFeature, compatible, sameNames}
-use Rattle.entry_id.proofs.ReadBack.{Proper, parts, feature-piece, head-cut}
-use Rattle.entry_id.proofs.FeatureLaws.{sameFeature-eq, sameFeature-refl, alike-eq, eq-alike, one-list}
+use Rattle.entry_id.proofs.ReadBack.{parts, head-cut}
+use Rattle.entry_id.proofs.FeatureLaws.{sameFeature-eq, sameFeature-refl, sameTarget-eq, eq-sameTarget, one-list}
 
 -- ---- cutting by positions
 
@@ -141,21 +140,21 @@ unfolding valid shaped
 valid-signed x v = search (and-l, and-r)
 
 -- compatible: every piece of the entry stands among the device's pieces
-pub compat-pieces : (e d : List ℕ) → T (valid e) → T (valid d)
+pub compatible-pieces : (e d : List ℕ) → T (valid e) → T (valid d)
     → compatible (meaning e) (meaning d) ≡ (sameTarget (meaning e) (meaning d) && every (λ p. any (same p) (piecesOf d)) (piecesOf e))
 unfolding compatible meaning meaningOf
-compat-pieces e d s t =
+compatible-pieces e d s t =
     ap (λ (b : Bool). sameTarget (meaning e) (meaning d) && b)
     (within-sorted (map feature (piecesOf e)) (map feature (piecesOf d)) ∙ every-pieces (piecesOf e) (piecesOf d) (valid-signed e s) (valid-signed d t))
 
 -- ---- heads
 
 -- kind, triple and processor are the same exactly where the canonical forms agree before the first ':'
-pub alike-heads : (a b : Meaning) → T (proper a) → T (proper b) → sameTarget a b ≡ same (joinWith (code "-") (sixFields a)) (joinWith (code "-") (sixFields b))
-alike-heads a b s t =
+pub sameTarget-heads : (a b : Meaning) → T (proper a) → T (proper b) → sameTarget a b ≡ same (joinWith (code "-") (sixFields a)) (joinWith (code "-") (sixFields b))
+sameTarget-heads a b s t =
     bool-ext (sameTarget a b) (same (joinWith (code "-") (sixFields a)) (joinWith (code "-") (sixFields b)))
-    (λ u. subst (λ fs. T (same (joinWith (code "-") (sixFields a)) (joinWith (code "-") fs))) (alike-eq a b u) (same-refl (joinWith (code "-") (sixFields a))))
-    (λ u. eq-alike a b
+    (λ u. subst (λ fs. T (same (joinWith (code "-") (sixFields a)) (joinWith (code "-") fs))) (sameTarget-eq a b u) (same-refl (joinWith (code "-") (sixFields a))))
+    (λ u. eq-sameTarget a b
     (sym (head-cut a (parts a s))
     ∙ ap (splitOn (code "-")) (same-eq (joinWith (code "-") (sixFields a)) (joinWith (code "-") (sixFields b)) u)
     ∙ head-cut b (parts b t)))

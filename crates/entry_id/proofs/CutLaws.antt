@@ -1,23 +1,20 @@
 -- Cutting a text at its runs of field bytes. Assumes nothing.
-use Prim.Native.Nat.{ℕ, zero, suc, _+_, _-_, _≤_, _<_}
-use Prim.Native.Char.{code}
+use Prim.Native.Nat.{ℕ, suc, _+_, _-_, _≤_, _<_}
 use mathlib.Core.Path.{_≡_, refl, sym, ap, _∙_, subst}
-use mathlib.Core.Logic.{_⊎_, inl, inr, ⊎-elim, _≢_}
-use mathlib.Core.Bool.{Bool, true, false, not, _&&_, _||_, cond}
-use mathlib.Core.List.{List, [], _∷_, _++_, map, append-assoc}
-use native.Mathlib.Numerals.{add-one}
-use native.Mathlib.Omega.{arith}
-use lib.ListN.{length, getD, take, drop, length-append, length-take, length-drop, drop-of-length-le, take-append-drop}
-use lib.Seq.{take-suc, take-all, take-length, drop-cons, drop-drop, getD-drop, length-take-le, append-snoc, take-add}
-use lib.Dec.{T, eqb, ltb, leb, eqb→eq, eqb-refl}
-use borrow.Author.Tests.{eqb-true, eqb-false, eq-eqb, ne-eqb, lt-ltb, le-ltb}
-use Rattle.entry_id.specs.Text.{every, any, splitOn, onFirst}
-use Rattle.wire.specs.Bytes.{same, empty}
-use Rattle.wire.proofs.Bools.{and-l, and-r, and-t, is-true, is-false, of-true, cases}
-use Rattle.entry_id.proofs.TextLaws.{every-append, split-last, split-skip, split-some}
+use mathlib.Core.Logic.{inl, inr, _≢_}
+use mathlib.Core.Bool.{Bool, true, false, _&&_}
+use mathlib.Core.List.{List, [], _∷_, _++_}
+use lib.ListN.{length, getD, drop, drop-of-length-le}
+use lib.Seq.{drop-cons}
+use lib.Dec.{T, eqb, ltb, eqb→eq}
+use borrow.Author.Tests.{eqb-true, eqb-false, ne-eqb, lt-ltb, le-ltb}
+use Rattle.entry_id.specs.Text.{every, splitOn, onFirst}
+use Rattle.wire.specs.Bytes.{same}
+use Rattle.wire.proofs.Bools.{and-l, and-r, is-false, cases}
+use Rattle.entry_id.proofs.TextLaws.{split-last, split-skip, split-some}
 use Rattle.entry_id.specs.Meaning.{fieldsOf, piecesOf, fieldByte, nameByte}
 use Rattle.entry_id.proofs.ReadBack.{no-dash}
-use Rattle.entry_id.specs.Code.Scan.{part, Run, endsAt, piecesAt, filled}
+use Rattle.entry_id.specs.Code.Scan.{part, Run, endsAt, piecesAt}
 use Rattle.entry_id.proofs.RunLaws.{part-drop, byte-inside}
 
 -- ---- a text that starts with a run

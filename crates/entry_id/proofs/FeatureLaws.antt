@@ -1,16 +1,16 @@
 -- The features of a meaning as a set, and the tests on meanings: the laws that make a pick's answer the only one. Assumes nothing.
-use Prim.Native.Nat.{ℕ, _≤_}
+use Prim.Native.Nat.{ℕ}
 use mathlib.Core.Path.{_≡_, refl, sym, ap, _∙_, subst}
 use mathlib.Core.Logic.{_⊎_, inl, inr, _↔_}
-use mathlib.Core.Bool.{Bool, true, false, not, _&&_, _||_, cond, Bool·beq}
-use mathlib.Core.List.{List, [], _∷_, _++_, map, List·Memᴰ, List·Memᴰ·head, List·Memᴰ·tail, List·Memᴰ·not-nil, List·Memᴰ·cases-cons, Memᴰ·cast}
+use mathlib.Core.Bool.{Bool, true, false, not, _&&_, _||_, Bool·beq}
+use mathlib.Core.List.{List, [], _∷_, map, List·Memᴰ, List·Memᴰ·head, List·Memᴰ·tail, List·Memᴰ·not-nil, List·Memᴰ·cases-cons}
 use lib.Dec.{T, T-not}
 use Rattle.entry_id.specs.Text.{every, any, agree}
 use Rattle.wire.specs.Bytes.{same, before}
-use Rattle.wire.proofs.Bools.{and-l, and-r, and-t, or-t, or-l, or-r, is-true, is-false, of-true, cond-ind, cond-case, cases}
-use Rattle.wire.proofs.ByteLaws.{same-refl, same-eq, before-irrefl, before-trans, before-total, before-other}
-use Rattle.entry_id.specs.Meaning.{Feature, Meaning, piecesOf, feature, insert, sort, meaningOf, meaning, sixFields, rising, proper, valid, canon}
-use Rattle.entry_id.proofs.ReadBack.{parts, proper-meaning, canon-meaning}
+use Rattle.wire.proofs.Bools.{and-l, and-r, and-t, or-t, or-l, or-r, cond-ind, cond-case}
+use Rattle.wire.proofs.ByteLaws.{same-refl, same-eq, before-irrefl, before-trans, before-other}
+use Rattle.entry_id.specs.Meaning.{Feature, Meaning, piecesOf, feature, insert, sort, meaningOf, meaning, sixFields, rising, valid}
+use Rattle.entry_id.proofs.ReadBack.{parts, proper-meaning}
 use Rattle.entry_id.specs.Theorems.{nameIn, distinct}
 use Rattle.entry_id.specs.Compare.{sameTarget, sameFeature, compatible, sameNames, sameMeaning, mixed}
 
@@ -104,7 +104,7 @@ sort-in f (g ∷ l) t = elim (List·Memᴰ·cases-cons t) [
   | inr u ↦ insert-in f g (sort l) (inr (sort-in f l u))
 ]
 
--- L4: the meaning's features are those that the text states
+-- the meaning's features are those that the text states
 pub features-stated : (x : List ℕ) (f : Feature) → List·Memᴰ f (meaning x .features) ↔ List·Memᴰ f (map feature (piecesOf x))
 unfolding meaning meaningOf
 features-stated x f = (sort-out f (map feature (piecesOf x)), sort-in f (map feature (piecesOf x)))
@@ -179,7 +179,7 @@ one-list (x ∷ a) (y ∷ b) s t p q =
     (λ f m. rest y x f b a t (sym e) m (q f (List·Memᴰ·tail m))) in
     cc
 
--- ---- L4: no name stated sameMeaning
+-- ---- no name stated twice
 
 name-apart : (f : Feature) (l : List Feature) → T (not (any (λ g. same (f .name) (g .name)) l)) → (g : Feature) → List·Memᴰ g l → f .name ≡ g .name → ⊥
 unfolding any
@@ -229,7 +229,7 @@ rising-insert f (h ∷ l) t =
     ))
     t
 
--- a name is stated sameMeaning exactly where the sorted list does not rise
+-- a name is stated twice exactly where the sorted list does not rise
 pub distinct-rising : (l : List Feature) → T (distinct l) → T (rising (sort l))
 unfolding distinct nameIn sort rising
 distinct-rising [] t = tt
@@ -244,7 +244,7 @@ rising-distinct (f ∷ l) t =
     let h = rising-insert f (sort l) t in
     and-t (not (any (λ g. same (f .name) (g .name)) l)) (distinct l) (apart-name f l (λ g m. h .1 g (sort-in g l m))) (rising-distinct l (h .0))
 
--- ---- L5, L6: the tests on meanings
+-- ---- the tests on meanings
 
 pub agree-eq : {A : Type 0} (t : A → A → Bool) → ((x y : A) → T (t x y) → x ≡ y) → (a b : List A) → T (agree t a b) → a ≡ b
 unfolding agree
@@ -261,16 +261,16 @@ unfolding agree
 agree-refl t h [] = tt
 agree-refl t h (x ∷ a) = and-t (t x x) (agree t a a) (h x) (agree-refl t h a)
 
-pub alike-eq : (a b : Meaning) → T (sameTarget a b) → sixFields a ≡ sixFields b
+pub sameTarget-eq : (a b : Meaning) → T (sameTarget a b) → sixFields a ≡ sixFields b
 unfolding sameTarget
-alike-eq a b t = agree-eq same same-eq (sixFields a) (sixFields b) t
+sameTarget-eq a b t = agree-eq same same-eq (sixFields a) (sixFields b) t
 
-pub eq-alike : (a b : Meaning) → sixFields a ≡ sixFields b → T (sameTarget a b)
+pub eq-sameTarget : (a b : Meaning) → sixFields a ≡ sixFields b → T (sameTarget a b)
 unfolding sameTarget
-eq-alike a b e = subst (λ fs. T (agree same (sixFields a) fs)) e (agree-refl same same-refl (sixFields a))
+eq-sameTarget a b e = subst (λ fs. T (agree same (sixFields a) fs)) e (agree-refl same same-refl (sixFields a))
 
-pub alike-join : (a b c : Meaning) → T (sameTarget a b) → T (sameTarget c b) → T (sameTarget a c)
-alike-join a b c s t = eq-alike a c (alike-eq a b s ∙ sym (alike-eq c b t))
+pub sameTarget-join : (a b c : Meaning) → T (sameTarget a b) → T (sameTarget c b) → T (sameTarget a c)
+sameTarget-join a b c s t = eq-sameTarget a c (sameTarget-eq a b s ∙ sym (sameTarget-eq c b t))
 
 -- two lists of one set of names, both within one rising list, are one list
 agree-within : (d : List Feature) → T (rising d) → (a b : List Feature) → T (every (λ f. any (sameFeature f) d) a) → T (every (λ f. any (sameFeature f) d) b)
@@ -292,22 +292,22 @@ unmixed true true s t = tt
 unmixed true false s t = s
 unmixed false b s t = absurd t
 
--- L5: two entries that are compatible with one device and are not mixed have one meaning
+-- two entries that are compatible with one device and are not mixed have one meaning
 pub one-compatible : (e e′ d : Meaning) → T (rising (d .features)) → T (compatible e d) → T (compatible e′ d) → T (not (mixed e e′)) → T (sameMeaning e e′)
 unfolding compatible mixed sameMeaning
 one-compatible e e′ d r s t n =
-    let a = alike-join e d e′ (and-l (sameTarget e d) (every (λ f. any (sameFeature f) (d .features)) (e .features)) s)
+    let a = sameTarget-join e d e′ (and-l (sameTarget e d) (every (λ f. any (sameFeature f) (d .features)) (e .features)) s)
     (and-l (sameTarget e′ d) (every (λ f. any (sameFeature f) (d .features)) (e′ .features)) t) in
     let u = unmixed (sameTarget e e′) (sameNames (e .features) (e′ .features)) n a in
     and-t (sameTarget e e′) (agree sameFeature (e .features) (e′ .features)) a
     (agree-within (d .features) r (e .features) (e′ .features) (and-r (sameTarget e d) (every (λ f. any (sameFeature f) (d .features)) (e .features)) s)
     (and-r (sameTarget e′ d) (every (λ f. any (sameFeature f) (d .features)) (e′ .features)) t) u)
 
--- `twice` is equality of meanings
-pub twice-eq : (a b : Meaning) → T (sameMeaning a b) → a ≡ b
+-- `sameMeaning` is equality of meanings
+pub sameMeaning-eq : (a b : Meaning) → T (sameMeaning a b) → a ≡ b
 unfolding sameMeaning sixFields
-twice-eq a b t =
-    let h = alike-eq a b (and-l (sameTarget a b) (agree sameFeature (a .features) (b .features)) t) in
+sameMeaning-eq a b t =
+    let h = sameTarget-eq a b (and-l (sameTarget a b) (agree sameFeature (a .features) (b .features)) t) in
     let k : a .kind ≡ b .kind = cc in
     let r : a .arch ≡ b .arch = cc in
     let v : a .vendor ≡ b .vendor = cc in
@@ -317,21 +317,14 @@ twice-eq a b t =
     let f = agree-eq sameFeature sameFeature-eq (a .features) (b .features) (and-r (sameTarget a b) (agree sameFeature (a .features) (b .features)) t) in
     λ i. record { kind = k i; arch = r i; vendor = v i; system = s i; environment = e i; processor = p i; features = f i }
 
-pub eq-twice : (a b : Meaning) → a ≡ b → T (sameMeaning a b)
+pub eq-sameMeaning : (a b : Meaning) → a ≡ b → T (sameMeaning a b)
 unfolding sameMeaning
-eq-twice a b e =
+eq-sameMeaning a b e =
     subst (λ c. T (sameMeaning a c)) e
-    (and-t (sameTarget a a) (agree sameFeature (a .features) (a .features)) (eq-alike a a refl) (agree-refl sameFeature sameFeature-refl (a .features)))
+    (and-t (sameTarget a a) (agree sameFeature (a .features) (a .features)) (eq-sameTarget a a refl) (agree-refl sameFeature sameFeature-refl (a .features)))
 
--- L5 on texts: no two entries with different meanings that are not mixed are compatible with one device name
+-- no two entries with different meanings that are not mixed are compatible with one device name
 pub one-entry : (x y d : List ℕ) → T (valid d) → T (compatible (meaning x) (meaning d)) → T (compatible (meaning y) (meaning d))
     → T (not (mixed (meaning x) (meaning y))) → meaning x ≡ meaning y
 one-entry x y d v s t n =
-    twice-eq (meaning x) (meaning y) (one-compatible (meaning x) (meaning y) (meaning d) (parts (meaning d) (proper-meaning d v) .in-order) s t n)
-
--- L6: the tests are the same on canonical texts
-pub compat-canon : (e d : List ℕ) → T (valid e) → T (valid d) → compatible (meaning (canon e)) (meaning (canon d)) ≡ compatible (meaning e) (meaning d)
-compat-canon e d s t = rw (canon-meaning e s, canon-meaning d t)
-
-pub mixed-canon : (e d : List ℕ) → T (valid e) → T (valid d) → mixed (meaning (canon e)) (meaning (canon d)) ≡ mixed (meaning e) (meaning d)
-mixed-canon e d s t = rw (canon-meaning e s, canon-meaning d t)
+    sameMeaning-eq (meaning x) (meaning y) (one-compatible (meaning x) (meaning y) (meaning d) (parts (meaning d) (proper-meaning d v) .in-order) s t n)

@@ -1,21 +1,21 @@
--- The environment and the processor: what the scan finds after the first four sixFields. Assumes nothing.
-use Prim.Native.Nat.{ℕ, zero, suc, _+_, _-_, _≤_, _<_}
+-- The environment and the processor: what the scan finds after the first four fields. Assumes nothing.
+use Prim.Native.Nat.{ℕ, suc, _+_, _-_, _≤_}
 use mathlib.Core.Path.{_≡_, refl, sym, ap, _∙_, subst}
-use mathlib.Core.Logic.{_⊎_, inl, inr, ⊎-elim, _≢_}
-use mathlib.Core.Bool.{Bool, true, false, not, _&&_, _||_, cond}
-use mathlib.Core.List.{List, [], _∷_, _++_, map, append-assoc}
+use mathlib.Core.Logic.{inl, inr}
+use mathlib.Core.Bool.{Bool, true, false, not}
+use mathlib.Core.List.{List, [], _∷_, _++_, append-assoc}
 use native.Mathlib.Omega.{arith}
 use lib.ListN.{length, getD, take, drop, replicate}
-use lib.Dec.{T, eqb, ltb, leb}
+use lib.Dec.{T, eqb, ltb}
 use borrow.Author.Tests.{eqb-true, eqb-false, lt-ltb, le-ltb, ltb-true, ltb-false}
 use Rattle.entry_id.specs.Text.{every, any, splitOn, joinWith}
 use Rattle.wire.specs.Bytes.{same, empty}
-use Rattle.wire.proofs.Bools.{and-l, and-r, and-t, is-true, is-false, of-true, cases}
+use Rattle.wire.proofs.Bools.{and-r, and-t, is-false, cases}
 use Rattle.entry_id.proofs.TextLaws.{split-some}
-use Rattle.entry_id.specs.Meaning.{Meaning, fieldsOf, piecesOf, fieldByte, namesProcessor, fifthIsProcessor, meaningOf, meaning, sixFields, kinds, valid}
+use Rattle.entry_id.specs.Meaning.{fieldsOf, piecesOf, fieldByte, namesProcessor, fifthIsProcessor, meaningOf, meaning, sixFields, kinds, valid}
 use Rattle.entry_id.specs.Code.Scan.{part, Run, Triple, HeadAt, HeadIs, endsAt, piecesAt}
-use Rattle.entry_id.proofs.RunLaws.{part-none, part-length, part-cons, take-step, byte-inside, some-of}
-use Rattle.entry_id.proofs.CutLaws.{skip-fields, skip-pieces, last-fields, bad-fields, dash-goes-on}
+use Rattle.entry_id.proofs.RunLaws.{part-none, part-length, part-cons, take-step, byte-inside}
+use Rattle.entry_id.proofs.CutLaws.{skip-fields, skip-pieces, last-fields, bad-fields}
 use Rattle.entry_id.proofs.HeadLaws.{valid-bytes, valid-count, not-t}
 
 append-nil : (l : List ℕ) → l ++ [] ≡ l
@@ -39,7 +39,7 @@ pub head-no : {x : List ℕ} {at dashes stop : ℕ} {proc ok : Bool} → valid x
 head-no v e = record { found = λ t. let z : _≡_ {A = Bool} true false = sym t ∙ e in absurd (subst T z tt); refused = λ t. v }
 
 module _ (x : List ℕ) (d : ℕ) (t : Triple x d) where
-  -- six sixFields
+  -- six fields
   abbrev six-of : List ℕ → List ℕ → List (List ℕ)
   six-of e p = t .kind ∷ t .arch ∷ t .vendor ∷ t .system ∷ e ∷ p ∷ []
 
@@ -83,7 +83,7 @@ module _ (x : List ℕ) (d : ℕ) (t : Triple x d) where
       pieces-are = pi;
     }
 
-  -- ---- four sixFields
+  -- ---- four fields
 
   four-are : endsAt x d ≡ true → fieldsOf x ≡ t .kind ∷ t .arch ∷ t .vendor ∷ t .system ∷ []
   four-are e = t .fields-are ∙ ap (λ l. t .kind ∷ t .arch ∷ t .vendor ∷ l) (last-fields x (t .start) d (t .run) e .0 ∙ ap (λ s. s ∷ []) (sym (t .system-is)))
@@ -102,7 +102,7 @@ module _ (x : List ℕ) (d : ℕ) (t : Triple x d) where
       let r : T (every (every fieldByte) (fieldsOf (drop (t .start) x))) = search (and-r) depth 6 in
       not-t (bad-fields x (t .start) d (t .run) m e) r)
 
-  -- ---- more sixFields
+  -- ---- more fields
 
   module _ (dash : getD x d 0 ≡ 45) (e : ℕ) (re : Run fieldByte x (suc d) e) where
     more-are : fieldsOf x ≡ t .kind ∷ t .arch ∷ t .vendor ∷ t .system ∷ fieldsOf (drop (suc d) x)

@@ -1,22 +1,21 @@
 -- What the scan of the head finds, against `fieldsOf` and `valid`. Assumes nothing.
 use Prim.Native.Nat.{ℕ, zero, suc, _+_, _-_, _≤_, _<_}
 use mathlib.Core.Path.{_≡_, refl, sym, ap, _∙_, subst}
-use mathlib.Core.Logic.{_⊎_, inl, inr, ⊎-elim, _≢_}
-use mathlib.Core.Bool.{Bool, true, false, not, _&&_, _||_, cond}
-use mathlib.Core.List.{List, [], _∷_, _++_, map, append-assoc}
-use native.Mathlib.Numerals.{add-one}
+use mathlib.Core.Logic.{inl, inr, _≢_}
+use mathlib.Core.Bool.{Bool, true, false, not, _&&_, cond}
+use mathlib.Core.List.{List, [], _∷_, _++_, append-assoc}
 use native.Mathlib.Omega.{arith}
-use lib.ListN.{length, getD, take, drop, length-append, length-take, length-drop, drop-of-length-le, take-append-drop}
-use lib.Dec.{T, eqb, ltb, leb, eqb→eq, eqb-refl, leb→le}
-use Rattle.entry_id.specs.Text.{every, any, splitOn}
+use lib.ListN.{length, getD, take, drop}
+use lib.Dec.{T, leb, leb→le}
+use Rattle.entry_id.specs.Text.{every, any}
 use Rattle.wire.specs.Bytes.{same, empty}
-use Rattle.wire.proofs.Bools.{and-l, and-r, and-t, or-t, is-true, is-false, of-true}
+use Rattle.wire.proofs.Bools.{and-l, and-r, and-t, or-t, is-false, of-true}
 use Rattle.wire.proofs.ByteLaws.{same-eq}
-use Rattle.entry_id.specs.Meaning.{Meaning, fieldsOf, piecesOf, fieldByte, namesProcessor, fifthIsProcessor, meaningOf, meaning, kinds, shaped, proper, valid}
+use Rattle.entry_id.specs.Meaning.{fieldsOf, piecesOf, fieldByte, namesProcessor, fifthIsProcessor, meaningOf, meaning, kinds, shaped, proper, valid}
 use Rattle.entry_id.proofs.ReadBack.{Proper, parts, kind-bytes, proper-meaning}
-use Rattle.entry_id.specs.Code.Scan.{part, Run, Next, Triple, endsAt, piecesAt, filled}
+use Rattle.entry_id.specs.Code.Scan.{part, Run, Next, Triple, filled}
 use Rattle.entry_id.proofs.RunLaws.{part-none, part-start, part-length, take-step, byte-inside, some-of}
-use Rattle.entry_id.proofs.CutLaws.{Cut, at-dash, at-end, at-bad, cut, skip-fields, skip-pieces}
+use Rattle.entry_id.proofs.CutLaws.{at-dash, at-end, at-bad, cut, skip-fields, skip-pieces}
 
 -- ---- filled
 
@@ -66,7 +65,7 @@ module _ (x : List ℕ) (s a k : ℕ) (h : Run fieldByte x s a) where
     | at-bad m e f ↦ not-t f (filled-bytes (suc (suc k)) (fieldsOf (drop s x)) t)
   ])
 
--- ---- what `valid` asks of the sixFields
+-- ---- what `valid` asks of the fields
 
 any-holds : (q : List ℕ → Bool) (k : List ℕ) (l : List (List ℕ)) → T (any (same k) l) → T (every q l) → T (q k)
 unfolding any every
@@ -160,7 +159,7 @@ module _ (x : List ℕ) (v : T (valid x)) where
   pub valid-bytes : T (every (every fieldByte) (fieldsOf x))
   valid-bytes = filled-bytes 4 (fieldsOf x) valid-filled
 
--- ---- the first four sixFields
+-- ---- the first four fields
 
 pub not-valid : (x : List ℕ) → filled 4 (fieldsOf x) ≡ false → valid x ≡ false
 not-valid x e = is-false (valid x) (λ v. not-t e (valid-filled x v))

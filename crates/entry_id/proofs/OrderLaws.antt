@@ -1,8 +1,8 @@
 -- Spans in order of their names. Assumes nothing.
-use Prim.Native.Nat.{ℕ, zero, suc, _+_, _-_, _≤_, _<_}
-use mathlib.Core.Path.{_≡_, refl, sym, ap, _∙_, subst}
-use mathlib.Core.Bool.{Bool, true, false, not, _&&_, _||_, cond}
-use mathlib.Core.List.{List, [], _∷_, _++_, map, append-assoc}
+use Prim.Native.Nat.{ℕ, suc, _+_, _-_, _≤_, _<_}
+use mathlib.Core.Path.{_≡_, refl, sym, ap, _∙_}
+use mathlib.Core.Bool.{Bool, true, false}
+use mathlib.Core.List.{List, [], _∷_, _++_}
 use native.Mathlib.Numerals.{add-one}
 use native.Mathlib.Omega.{arith}
 use lib.ListN.{length, getD, take, drop, set, length-append, length-take, length-set, length-drop, drop-of-length-le}
@@ -84,9 +84,6 @@ module _ (x : List ℕ) (u : List Span) (n i : ℕ) (room : n ≤ length u) wher
   len : length (take n u) ≡ n
   len = length-take-le n u room
 
-  same-f : i < n → getD (take n u) i noSpan ≡ getD u i noSpan
-  same-f h = getD-take n u i noSpan h
-
   test : (b : Bool) → i + 1 < n → before (nameOf x (getD u i noSpan)) (nameOf x (getD u (i + 1) noSpan)) ≡ b
       → before (nameOf x (getD (take n u) i noSpan)) (nameOf x (getD (take n u) (suc i) noSpan)) ≡ b
   test b h e = rw (getD-take n u i noSpan (omega arith), getD-take n u (suc i) noSpan (omega arith), sym (add-one i)) e
@@ -123,6 +120,3 @@ unfolding sortS
 sort-none x t n =
     let l : length (take n t) ≤ n = omega (arith, length-take n t) in
     rw (drop-of-length-le (take n t) l, take-all n (take n t) l) (sym (append-nil (take n t)))
-
-pub sort-all : (x : List ℕ) (s : List Span) → take 0 s ++ sortS x (drop 0 s) ≡ sortS x s
-sort-all x s = refl

@@ -1,20 +1,20 @@
 -- Pieces as runs of name bytes and a sign. Assumes nothing.
-use Prim.Native.Nat.{ℕ, zero, suc, _+_, _-_, _≤_, _<_}
+use Prim.Native.Nat.{ℕ, suc, _+_, _-_, _≤_, _<_}
 use mathlib.Core.Path.{_≡_, refl, sym, ap, _∙_, subst}
-use mathlib.Core.Logic.{_⊎_, inl, inr, ⊎-elim, _≢_}
-use mathlib.Core.Bool.{Bool, true, false, not, _&&_, _||_, cond}
-use mathlib.Core.List.{List, [], _∷_, _++_, map, append-assoc}
+use mathlib.Core.Logic.{inl, inr}
+use mathlib.Core.Bool.{Bool, true, false, not, cond}
+use mathlib.Core.List.{List, [], _∷_, _++_, append-assoc}
 use native.Mathlib.Numerals.{add-one}
 use native.Mathlib.Omega.{arith}
-use lib.ListN.{length, getD, take, drop, length-append, length-take, length-drop, drop-of-length-le, take-append-drop}
-use lib.Seq.{take-suc, take-at, drop-at, getD-at, drop-cons, drop-drop, getD-drop, getD-append-add}
-use lib.Dec.{T, eqb, ltb, leb, eqb→eq, eqb-refl}
-use borrow.Author.Tests.{eqb-true, eqb-false, eq-eqb, ne-eqb, lt-ltb, le-ltb, ltb-true, ltb-false}
-use Rattle.entry_id.specs.Text.{every, any, splitOn, onFirst, joinWith}
-use Rattle.wire.specs.Bytes.{same, empty}
+use lib.ListN.{length, getD, take, drop, length-append, length-drop, drop-of-length-le}
+use lib.Seq.{take-at, getD-at, drop-cons, getD-drop, getD-append-add}
+use lib.Dec.{T, eqb, ltb, eqb→eq}
+use borrow.Author.Tests.{eqb-true, lt-ltb, le-ltb, ltb-true, ltb-false}
+use Rattle.entry_id.specs.Text.{every, splitOn, joinWith}
+use Rattle.wire.specs.Bytes.{empty}
 use Rattle.wire.proofs.Bools.{and-l, and-r, and-t, or-t, is-true, is-false, of-true, cases}
 use Rattle.entry_id.proofs.TextLaws.{every-append, every-imp, split-last, split-skip, split-some, join-split}
-use Rattle.entry_id.specs.Meaning.{Feature, feature, piece, sign, signed, named, nameByte}
+use Rattle.entry_id.specs.Meaning.{feature, piece, sign, signed, named, nameByte}
 use Rattle.entry_id.proofs.CompareLaws.{piece-feature}
 use Rattle.entry_id.specs.Code.Scan.{part, Run, endsAt, piecesAt}
 use Rattle.entry_id.specs.Code.Spans.{pieceOk, signByte, Piece}

@@ -1,22 +1,22 @@
 -- The spans of a text against the features that it means, and the rules as the code checks them. Assumes nothing.
-use Prim.Native.Nat.{ℕ, zero, suc, _+_, _-_, _≤_, _<_}
+use Prim.Native.Nat.{ℕ, suc, _+_, _-_, _≤_, _<_}
 use mathlib.Core.Path.{_≡_, refl, sym, ap, _∙_, subst}
-use mathlib.Core.Logic.{_⊎_, inl, inr, ⊎-elim, _≢_}
+use mathlib.Core.Logic.{inl, inr}
 use mathlib.Core.Bool.{Bool, true, false, not, _&&_, _||_, cond}
-use mathlib.Core.List.{List, [], _∷_, _++_, map, append-assoc}
+use mathlib.Core.List.{List, [], _∷_, _++_, map}
 use native.Mathlib.Omega.{arith}
-use lib.ListN.{length, getD, take, drop, length-append, length-take, length-map, length-drop, drop-of-length-le, replicate, length-replicate}
+use lib.ListN.{length, take, drop, length-append, length-map, length-drop, drop-of-length-le, replicate, length-replicate}
 use lib.Seq.{length-take-le, drop-cons}
-use lib.Dec.{T, eqb, ltb, leb, le→leb, leb→le, ltb→lt}
-use borrow.Author.Tests.{lt-ltb, le-ltb, ltb-true, ltb-false}
+use lib.Dec.{T, ltb, leb, le→leb, leb→le, ltb→lt}
+use borrow.Author.Tests.{lt-ltb, ltb-true, ltb-false}
 use Rattle.entry_id.specs.Text.{every, any, splitOn, joinWith}
 use Rattle.wire.specs.Bytes.{same, empty, before}
 use Rattle.wire.proofs.Bools.{and-l, and-r, and-t, or-t, or-l, or-r, is-true, is-false, of-true, cond-ind, cases}
 use Rattle.entry_id.proofs.TextLaws.{split-some, join-split}
-use Rattle.entry_id.specs.Meaning.{Feature, Meaning, fieldsOf, piecesOf, feature, insert, sort, meaningOf, meaning, piece, sixFields, canonicalOf, fieldByte, nameByte, kinds, signed, named, rising, shaped, proper, valid, canon}
-use Rattle.entry_id.proofs.ReadBack.{Proper, parts, proper-meaning, canon-is, canon-refused, canon-size}
+use Rattle.entry_id.specs.Meaning.{Feature, fieldsOf, piecesOf, feature, insert, sort, meaningOf, meaning, piece, sixFields, canonicalOf, fieldByte, kinds, signed, named, rising, shaped, proper, valid, canon}
+use Rattle.entry_id.proofs.ReadBack.{parts, canon-is, canon-refused}
 use Rattle.entry_id.proofs.CompareLaws.{piece-feature, sort-every, sort-length, valid-signed}
-use Rattle.entry_id.specs.Code.Scan.{part, HeadAt, endsAt, piecesAt}
+use Rattle.entry_id.specs.Code.Scan.{part, HeadAt, piecesAt}
 use Rattle.entry_id.specs.Code.Spans.{pieceOk, good, pieceAt, nameOf, chunkOf, chunks, Pieces, insertS, sortS, risingS, headText, PlanAt, PlanIs}
 use Rattle.entry_id.specs.Canonical.{canonicalIn}
 use Rattle.entry_id.specs.declared.features.Span.{Span}
@@ -24,8 +24,8 @@ use Rattle.entry_id.proofs.RunLaws.{part-cons, part-length}
 use Rattle.wire.specs.Bytes.{overwrite}
 use Rattle.wire.proofs.OverwriteLaws.{overwrite-in, overwrite-then}
 use Rattle.entry_id.proofs.PieceLaws.{append-nil, piece-ok, name-is, colon-there}
-use Rattle.entry_id.proofs.SpanLaws.{Good, good-parts, neither, both-false, pieces-here, pieces-none}
-use Rattle.entry_id.proofs.HeadLaws.{not-t, valid-count, valid-parts}
+use Rattle.entry_id.proofs.SpanLaws.{Good, good-parts, pieces-here, pieces-none}
+use Rattle.entry_id.proofs.HeadLaws.{not-t, valid-parts}
 
 -- ---- one span
 
@@ -160,7 +160,7 @@ not-not : (b : Bool) → not b ≡ false → T b
 not-not true e = tt
 not-not false e = subst T e tt
 
--- a text of so many sixFields is not empty
+-- a text of so many fields is not empty
 some-text : (x : List ℕ) (dashes : ℕ) → length (fieldsOf x) + dashes ≡ 6 → dashes ≤ 2 → 1 ≤ length x
 unfolding fieldsOf splitOn
 some-text [] dashes e h = absurd (omega arith)

@@ -1,20 +1,20 @@
 -- Reading back what is written: the canonical form of a proper meaning is an ID with that meaning. Assumes nothing.
-use Prim.Native.Nat.{ℕ, zero, suc, _+_, _-_, _≤_, _<_}
+use Prim.Native.Nat.{ℕ, _+_, _-_, _≤_}
 use Prim.Native.Char.{code}
 use mathlib.Core.Path.{_≡_, refl, sym, ap, _∙_, subst}
-use mathlib.Core.Logic.{_⊎_, inl, inr, _↔_}
-use mathlib.Core.Bool.{Bool, true, false, not, _&&_, _||_, cond}
-use mathlib.Core.List.{List, [], _∷_, _++_, map}
+use mathlib.Core.Logic.{inl, inr, _↔_}
+use mathlib.Core.Bool.{Bool, true, false, not, _||_}
+use mathlib.Core.List.{List, [], _∷_, map}
 use native.Mathlib.Omega.{arith}
-use lib.ListN.{length, getD, take, drop, length-append}
+use lib.ListN.{length, getD, take, length-append}
 use lib.Seq.{take-at, getD-at}
-use lib.Dec.{T, eqb, ltb, leb, eqb→eq, le→leb, leb→le}
+use lib.Dec.{T, eqb, leb, eqb→eq, le→leb, leb→le}
 use Rattle.wire.specs.Bytes.{bytes, empty, same, before}
-use Rattle.entry_id.specs.Text.{every, any, onFirst, splitOn, joinWith}
-use Rattle.wire.proofs.Bools.{and-l, and-r, and-t, or-t, or-l, or-r, is-true, is-false, of-true, cases}
+use Rattle.entry_id.specs.Text.{every, any, splitOn, joinWith}
+use Rattle.wire.proofs.Bools.{and-l, and-r, and-t, or-t, or-l, is-true, is-false, of-true, cases}
 use Rattle.entry_id.proofs.TextLaws.{every-imp, every-append, split-join}
-use Rattle.wire.proofs.ByteLaws.{same-refl, same-eq}
-use Rattle.entry_id.specs.Meaning.{Feature, Meaning, fieldsOf, piecesOf, namesProcessor, fifthIsProcessor, feature, insert, sort, meaningOf, meaning, sign, piece, sixFields, canonicalOf, nameByte, fieldByte, kinds, signed, rising, named, shaped, proper, valid, canon}
+use Rattle.wire.proofs.ByteLaws.{same-eq}
+use Rattle.entry_id.specs.Meaning.{Feature, Meaning, fieldsOf, piecesOf, fifthIsProcessor, feature, insert, sort, meaningOf, meaning, sign, piece, sixFields, canonicalOf, nameByte, fieldByte, kinds, signed, rising, named, shaped, proper, valid, canon}
 
 -- ---- one feature
 
@@ -173,7 +173,7 @@ module _ (m : Meaning) (h : Proper m) where
   unfolding canonicalOf main every
   cut = split-join (code ":") notColon no-colon (main m) (map piece (m .features)) (and-t (every notColon (main m)) _ main-not-colon (pieces-not-colon (m .features) (h .all-named)))
 
-  -- the six sixFields, out of the canonical form's head
+  -- the six fields, out of the canonical form's head
   pub head-cut : splitOn (code "-") (joinWith (code "-") (sixFields m)) ≡ sixFields m
   unfolding sixFields
   head-cut = split-join (code "-") fieldByte no-dash (m .kind) (m .arch ∷ m .vendor ∷ m .system ∷ m .environment ∷ m .processor ∷ []) (all-fields m h)
@@ -215,7 +215,7 @@ module _ (m : Meaning) (h : Proper m) where
   unfolding valid
   valid-write t = and-t (shaped (canonicalOf m)) (proper (meaning (canonicalOf m))) shaped-write (rw meaning-write t)
 
--- ---- L1, L2, L3: reading back, one text for each meaning, sizes
+-- ---- reading back, one text for each meaning, sizes
 
 module _ (x : List ℕ) (v : T (valid x)) where
   pub proper-meaning : T (proper (meaning x))
@@ -246,14 +246,11 @@ canon-empty : canon [] ≡ []
 unfolding canon valid shaped
 canon-empty = refl
 
-pub canon-twice : (x : List ℕ) → canon (canon x) ≡ canon x
-canon-twice x = elim (cases (valid x)) [
+pub canon-again : (x : List ℕ) → canon (canon x) ≡ canon x
+canon-again x = elim (cases (valid x)) [
   | inl e ↦ let v = of-true (valid x) e in canon-is (canon x) (canon-valid x v) ∙ ap canonicalOf (canon-meaning x v) ∙ sym (canon-is x v)
   | inr e ↦ let r = canon-refused x e in rw r canon-empty
 ]
-
-pub write-injective : (m n : Meaning) → T (proper m) → T (proper n) → canonicalOf m ≡ canonicalOf n → m ≡ n
-write-injective m n s t e = sym (meaning-write m (parts m s)) ∙ ap meaning e ∙ meaning-write n (parts n t)
 
 pub same-canon : (x y : List ℕ) → T (valid x) → T (valid y) → (canon x ≡ canon y) ↔ (meaning x ≡ meaning y)
 same-canon x y s t =

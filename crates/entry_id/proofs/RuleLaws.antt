@@ -1,8 +1,8 @@
 -- The project's ID rules are lawful, and code on canonical forms decides them. Assumes nothing.
 use Prim.Native.Nat.{ℕ, _≤_}
 use native.Mathlib.Omega.{arith}
-use mathlib.Core.Path.{_≡_, refl, sym, ap, ap₂, _∙_, subst}
-use mathlib.Core.Logic.{_⊎_, inl, inr}
+use mathlib.Core.Path.{_≡_, refl, sym, ap, ap₂, _∙_}
+use mathlib.Core.Logic.{inl, inr}
 use mathlib.Core.Bool.{Bool, true, false, not, _&&_}
 use mathlib.Core.List.{List, [], _∷_}
 use lib.ListN.{length}
@@ -10,16 +10,16 @@ use lib.Dec.{T}
 use borrow.Author.Tests.{le-leb}
 use Rattle.wire.specs.Bytes.{empty, same}
 use Rattle.wire.proofs.ByteLaws.{same-sym}
-use Rattle.wire.proofs.Bools.{byBool, clash, cases, of-true, is-true, is-false, bool-ext}
+use Rattle.wire.proofs.Bools.{clash, cases, of-true, is-true, bool-ext}
 use Rattle.entry_id.specs.Meaning.{Meaning, meaning, sixFields, valid, canon}
 use Rattle.entry_id.specs.Text.{agree}
 use Rattle.entry_id.specs.Compare.{compatible, sameMeaning, mixed, sameTarget, sameNames}
 use Rattle.entry_id.specs.Canonical.{compatibleText, sameText, mixedText, canonicalIn}
-use Rattle.entry_id.specs.IdRules.{IdRules, Lawful}
+use Rattle.entry_id.specs.IdRules.{Lawful}
 use Rattle.entry_id.specs.Rules.{idRules}
-use Rattle.entry_id.proofs.ReadBack.{canon-meaning, canon-valid, canon-size, canon-twice, canon-refused}
-use Rattle.entry_id.proofs.FeatureLaws.{twice-eq, eq-twice, one-entry}
-use Rattle.entry_id.proofs.CanonicalLaws.{compat-canonical, mixed-canonical, twice-canonical}
+use Rattle.entry_id.proofs.ReadBack.{canon-valid, canon-size, canon-again, canon-refused}
+use Rattle.entry_id.proofs.FeatureLaws.{sameMeaning-eq, eq-sameMeaning, one-entry}
+use Rattle.entry_id.proofs.CanonicalLaws.{compatible-canonical, mixed-canonical, same-canonical}
 
 -- a text with a canonical form is an ID
 pub named-valid : (x : List ℕ) → empty (canon x) ≡ false → T (valid x)
@@ -47,8 +47,8 @@ agree-sym t h (x ∷ a) (y ∷ b) = ap₂ _&&_ (h x y) (agree-sym t h a b)
 sameMeaning-sym : (a b : Meaning) → sameMeaning a b ≡ sameMeaning b a
 sameMeaning-sym a b =
     bool-ext (sameMeaning a b) (sameMeaning b a)
-    (λ t. eq-twice b a (sym (twice-eq a b t)))
-    (λ t. eq-twice a b (sym (twice-eq b a t)))
+    (λ t. eq-sameMeaning b a (sym (sameMeaning-eq a b t)))
+    (λ t. eq-sameMeaning a b (sym (sameMeaning-eq b a t)))
 
 mixed-sym : (a b : Meaning) → mixed a b ≡ mixed b a
 unfolding mixed sameTarget sameNames
@@ -62,14 +62,14 @@ one : (x y d : List ℕ) → empty (canon d) ≡ false
     → sameMeaning (meaning (canon x)) (meaning (canon y)) ≡ false → mixed (meaning (canon x)) (meaning (canon y)) ≡ false → ⊥
 one x y d v p q s m =
     let e = one-entry (canon x) (canon y) (canon d) (canon-valid d (named-valid d v)) (of-true _ p) (of-true _ q) (of-true _ (ap not m)) in
-    clash (sameMeaning (meaning (canon x)) (meaning (canon y))) (is-true _ (eq-twice _ _ e)) s
+    clash (sameMeaning (meaning (canon x)) (meaning (canon y))) (is-true _ (eq-sameMeaning _ _ e)) s
 
 pub idRules-lawful : Lawful idRules
 unfolding idRules
 idRules-lawful = record {
-  canon-again = canon-twice;
+  canon-again = canon-again;
   canon-short = canon-short;
-  same-self = λ x v. is-true _ (eq-twice (meaning (canon x)) (meaning (canon x)) refl);
+  same-self = λ x v. is-true _ (eq-sameMeaning (meaning (canon x)) (meaning (canon x)) refl);
   same-sym = λ x y. sameMeaning-sym (meaning (canon x)) (meaning (canon y));
   mixed-sym = λ x y. mixed-sym (meaning (canon x)) (meaning (canon y));
   one-compatible = λ x y d u v w. one x y d w;
@@ -90,11 +90,11 @@ module _ (a b : List ℕ) (again-a : canon a ≡ a) (some-a : empty a ≡ false)
 
   pub compatible-rules : compatibleText a b ≡ idRules .compatible a b
   unfolding idRules
-  compatible-rules = on-texts compatibleText compatible (compat-canonical a b)
+  compatible-rules = on-texts compatibleText compatible (compatible-canonical a b)
 
   pub same-rules : sameText a b ≡ idRules .sameMeaning a b
   unfolding idRules sameText
-  same-rules = on-texts same sameMeaning (twice-canonical a b)
+  same-rules = on-texts same sameMeaning (same-canonical a b)
 
   pub mixed-rules : mixedText a b ≡ idRules .mixed a b
   unfolding idRules

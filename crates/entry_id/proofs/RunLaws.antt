@@ -1,22 +1,21 @@
 -- Laws of runs and parts. Assumes nothing.
-use Prim.Native.Nat.{ℕ, zero, suc, _+_, _-_, _≤_, _<_}
-use mathlib.Core.Path.{_≡_, refl, sym, ap, _∙_, subst}
-use mathlib.Core.Logic.{_⊎_, inl, inr, ⊎-elim, _≢_}
-use mathlib.Core.Bool.{Bool, true, false, not, _&&_, _||_, cond}
-use mathlib.Core.List.{List, [], _∷_, _++_, map, append-assoc}
-use native.Mathlib.Numerals.{add-one}
+use Prim.Native.Nat.{ℕ, suc, _+_, _-_, _≤_, _<_}
+use mathlib.Core.Path.{_≡_, sym, ap, _∙_}
+use mathlib.Core.Logic.{inl, inr}
+use mathlib.Core.Bool.{Bool, true, false, not}
+use mathlib.Core.List.{List, [], _∷_, _++_}
 use native.Mathlib.Omega.{arith}
-use lib.ListN.{length, getD, take, drop, length-append, length-take, length-drop, drop-of-length-le, take-append-drop, List·getD-eq-default}
-use lib.Seq.{take-suc, take-all, take-length, drop-cons, drop-drop, getD-drop, length-take-le, append-snoc, take-add}
-use lib.Dec.{T, eqb, ltb, leb, eqb→eq, eqb-refl}
-use borrow.Author.Tests.{eqb-true, eqb-false, eq-eqb, ne-eqb, ltb-true, ltb-false}
+use lib.ListN.{length, getD, take, drop, length-take, length-drop, take-append-drop, List·getD-eq-default}
+use lib.Seq.{take-suc, drop-cons, drop-drop, getD-drop, length-take-le, take-add}
+use lib.Dec.{T, ltb}
+use borrow.Author.Tests.{ltb-true, ltb-false}
 use Rattle.entry_id.specs.Text.{every}
-use Rattle.wire.specs.Bytes.{same, empty, bytes}
+use Rattle.wire.specs.Bytes.{empty, bytes}
 use Rattle.entry_id.specs.Meaning.{namesProcessor}
-use Rattle.wire.proofs.Bools.{and-l, and-r, and-t, is-true, is-false, of-true, cases}
+use Rattle.wire.proofs.Bools.{and-t, of-true, cases}
 use Rattle.entry_id.proofs.TextLaws.{every-append}
-use Rattle.wire.proofs.ByteLaws.{same-eq}
-use Rattle.entry_id.specs.Code.Scan.{part, Run}
+use Rattle.wire.proofs.ByteLaws.{same-length}
+use Rattle.entry_id.specs.Code.Scan.{part}
 
 -- ---- parts
 
@@ -42,10 +41,6 @@ part-drop x a e h =
     let f : a + (e - a) ≡ e = omega arith in
     sym (take-append-drop (e - a) (drop a x)) ∙ ap (λ r. take (e - a) (drop a x) ++ r) (drop-drop (e - a) a x ∙ ap (λ n. drop n x) f)
 
-pub part-rest : {A : Type 0} (x : List A) (a : ℕ) → part x a (length x) ≡ drop a x
-unfolding part
-part-rest x a = take-all (length x - a) (drop a x) (omega (arith, length-drop a x))
-
 pub part-start : {A : Type 0} (x : List A) (e : ℕ) → part x 0 e ≡ take e x
 unfolding part
 part-start x e = let f : e - 0 ≡ e = omega arith in rw f
@@ -63,24 +58,7 @@ module _ (p : ℕ → Bool) (x : List ℕ) (a : ℕ) where
       rw (part-more x 0 a i h k)
       (every-append p (part x a i) (getD x i 0 ∷ []) t (and-t (p (getD x i 0)) true (of-true (p (getD x i 0)) e) tt))
 
--- ---- the same bytes, by positions
-
-pub same-lengths : (a b : List ℕ) → (length a ≡ length b → ⊥) → same a b ≡ false
-unfolding same
-same-lengths a b n = is-false (same a b) (λ t. n (ap length (same-eq a b t)))
-
-module _ (a b : List ℕ) (i : ℕ) where
-  pub same-differ : i < length a → i < length b → (getD a i 0 ≡ getD b i 0 → ⊥) → same (drop i a) (drop i b) ≡ false
-  unfolding same
-  same-differ h k n = rw (drop-cons a i 0 h, drop-cons b i 0 k, ne-eqb (getD a i 0) (getD b i 0) n)
-
-  pub same-step : i < length a → i < length b → getD a i 0 ≡ getD b i 0 → same (drop i a) (drop i b) ≡ same (drop (i + 1) a) (drop (i + 1) b)
-  unfolding same
-  same-step h k e = rw (add-one i, drop-cons a i 0 h, drop-cons b i 0 k, eq-eqb (getD a i 0) (getD b i 0) e)
-
-  pub same-end : length a ≤ i → length b ≤ i → same (drop i a) (drop i b) ≡ true
-  unfolding same
-  same-end h k = rw (drop-of-length-le a h, drop-of-length-le b k)
+-- ---- bytes
 
 -- a byte that is not 0 stands inside
 pub byte-inside : (x : List ℕ) (i b : ℕ) → getD x i 0 ≡ suc b → i < length x
@@ -106,7 +84,7 @@ pub short-proc : (f : List ℕ) → length f < 3 → namesProcessor f ≡ false
 unfolding namesProcessor
 short-proc f h =
     let l : length (take 3 f) < 3 = omega (arith, length-take 3 f) in
-    rw (same-lengths (take 3 f) (bytes "gfx") (λ e. absurd (omega arith)), same-lengths (take 3 f) (bytes "sm_") (λ e. absurd (omega arith)))
+    rw (same-length (take 3 f) (bytes "gfx") (λ e. absurd (omega arith)), same-length (take 3 f) (bytes "sm_") (λ e. absurd (omega arith)))
 
 -- a part, from its first byte
 pub part-cons : (x : List ℕ) (a r b : ℕ) → getD x a 0 ≡ b → a < length x → suc a ≤ r → part x a r ≡ b ∷ part x (suc a) r

@@ -1,23 +1,23 @@
 -- Features as spans: the scan, name and piece of a span. Assumes nothing.
-use Prim.Native.Nat.{ℕ, zero, suc, _+_, _-_, _≤_, _<_}
+use Prim.Native.Nat.{ℕ, suc, _+_, _-_, _≤_, _<_}
 use mathlib.Core.Path.{_≡_, refl, sym, ap, _∙_, subst}
-use mathlib.Core.Logic.{_⊎_, inl, inr, ⊎-elim, _≢_}
-use mathlib.Core.Bool.{Bool, true, false, not, _&&_, _||_, cond}
+use mathlib.Core.Logic.{_⊎_, inl, inr}
+use mathlib.Core.Bool.{Bool, true, false, _&&_, _||_}
 use mathlib.Core.List.{List, [], _∷_, _++_, map, append-assoc}
 use native.Mathlib.Numerals.{add-one}
 use native.Mathlib.Omega.{arith}
-use lib.ListN.{length, getD, take, drop, set, length-append, length-take, length-map}
+use lib.ListN.{length, getD, take, drop, set, length-append, length-map}
 use lib.Seq.{take-suc-set, length-take-le}
 use lib.Dec.{T, eqb, ltb, leb, eqb→eq, ltb→lt, lt→ltb, leb→le}
-use borrow.Author.Tests.{eqb-true, eq-eqb, lt-ltb, le-ltb, ltb-true, ltb-false}
+use borrow.Author.Tests.{eq-eqb, lt-ltb, le-ltb}
 use Rattle.entry_id.specs.Text.{every, splitOn}
-use Rattle.wire.proofs.Bools.{and-l, and-r, and-t, or-t, is-true, is-false, of-true, cases}
+use Rattle.wire.proofs.Bools.{and-l, and-r, and-t, is-true, is-false, of-true}
 use Rattle.entry_id.proofs.TextLaws.{every-append, split-some}
-use Rattle.entry_id.specs.Meaning.{Feature, feature, piece, sign, signed, named, nameByte}
-use Rattle.entry_id.specs.Code.Scan.{part, Run, endsAt, piecesAt}
-use Rattle.entry_id.specs.Code.Spans.{pieceOk, signByte, Piece, good, pieceAt, nameOf, chunkOf}
+use Rattle.entry_id.specs.Meaning.{piece, sign, nameByte}
+use Rattle.entry_id.specs.Code.Scan.{part, endsAt, piecesAt}
+use Rattle.entry_id.specs.Code.Spans.{pieceOk, signByte, Piece, good, pieceAt}
 use Rattle.entry_id.specs.declared.features.Span.{Span}
-use Rattle.entry_id.proofs.PieceLaws.{append-nil, colon-there, piece-split, piece-ok, name-is}
+use Rattle.entry_id.proofs.PieceLaws.{colon-there, piece-split}
 
 pub map-append : {A B : Type 0} (f : A → B) (a b : List A) → map f (a ++ b) ≡ map f a ++ map f b
 map-append f [] b = refl

@@ -1,22 +1,21 @@
 -- The tests on two texts, piece by piece. Assumes nothing.
-use Prim.Native.Nat.{ℕ, zero, suc, _+_, _-_, _≤_, _<_}
+use Prim.Native.Nat.{ℕ, suc, _+_, _-_, _≤_, _<_}
 use mathlib.Core.Path.{_≡_, refl, sym, ap, _∙_, subst}
-use mathlib.Core.Logic.{_⊎_, inl, inr}
-use mathlib.Core.Bool.{Bool, true, false, not, _&&_, _||_, cond}
+use mathlib.Core.Logic.{inl, inr}
+use mathlib.Core.Bool.{Bool, true, false, not}
 use mathlib.Core.List.{List, [], _∷_, _++_}
-use native.Mathlib.Omega.{arith}
-use lib.ListN.{length, getD, take, drop, drop-of-length-le}
+use lib.ListN.{length, getD, drop, drop-of-length-le}
 use lib.Seq.{drop-cons}
-use lib.Dec.{T, eqb, ltb, leb}
-use borrow.Author.Tests.{eqb-true, eqb-false, eq-eqb, ne-eqb, lt-ltb, le-ltb, ltb-true, ltb-false, leb-true, leb-false, not-false}
+use lib.Dec.{T, ltb, leb}
+use borrow.Author.Tests.{eqb-true, eqb-false, eq-eqb, ne-eqb, lt-ltb, ltb-true, ltb-false, leb-true, leb-false, not-false}
 use Rattle.entry_id.specs.Text.{every, any, splitOn, onFirst, agree}
 use Rattle.wire.specs.Bytes.{same}
 use Rattle.entry_id.proofs.TextLaws.{split-last, split-skip, split-some}
-use Rattle.wire.proofs.Bools.{of-true, is-true, cases}
+use Rattle.wire.proofs.Bools.{cases}
 use Rattle.entry_id.specs.Meaning.{piecesOf}
 use Rattle.entry_id.specs.Code.Scan.{part, Run, piecesAt, endsAt, notColon, MeetIs}
 use Rattle.entry_id.specs.Canonical.{headOf, within, unsigned, samePieceNames, compatibleText, mixedText}
-use Rattle.entry_id.proofs.RunLaws.{part-drop, part-start}
+use Rattle.entry_id.proofs.RunLaws.{part-drop}
 use Rattle.entry_id.proofs.PieceLaws.{append-nil}
 use Rattle.entry_id.proofs.SpanLaws.{pieces-here, pieces-none}
 use native.Mathlib.Numerals.{add-one}
@@ -42,10 +41,6 @@ module _ (x : List ℕ) (a r : ℕ) (h : Run notColon x a r) where
             ap (splitOn 58) (d ∙ ap (λ z. part x a r ++ z) (drop-of-length-le x k) ∙ append-nil (part x a r))
             ∙ split-last 58 notColon no-colon (part x a r) (h .passed) ∙ ap (λ l. part x a r ∷ l) (sym (pieces-none x r k))
       ]
-
-pub head-is : (x : List ℕ) (r : ℕ) → Run notColon x 0 r → headOf x ≡ take r x
-unfolding headOf
-head-is x r h = ap (λ (l : List (List ℕ)). getD l 0 []) (cut-piece x 0 r h) ∙ part-start x r
 
 pub pieces-is : (x : List ℕ) (r : ℕ) → Run notColon x 0 r → piecesOf x ≡ piecesAt x r
 unfolding piecesOf
@@ -178,19 +173,13 @@ module _ (a b : List ℕ) (i : ℕ) where
   ]
 
 module _ (a b : List ℕ) (r : ℕ) (m : MeetIs a b r) where
-  pub heads-are : ltb 0 r ≡ same (headOf a) (headOf b)
-  heads-are = elim (cases (ltb 0 r)) [
-    | inl h ↦ h ∙ sym (m .found (ltb-true 0 r h) .0)
-    | inr h ↦ let k = ltb-false 0 r h in h ∙ sym (m .differ (omega arith))
-  ]
-
-  pub compat-yes : 0 < r → within (piecesAt b (r - 1)) (piecesAt a (r - 1)) ≡ compatibleText a b
+  pub compatible-yes : 0 < r → within (piecesAt b (r - 1)) (piecesAt a (r - 1)) ≡ compatibleText a b
   unfolding compatibleText
-  compat-yes h = let f = m .found h in rw (f .0, pieces-is a (r - 1) (f .1 .0), pieces-is b (r - 1) (f .1 .1))
+  compatible-yes h = let f = m .found h in rw (f .0, pieces-is a (r - 1) (f .1 .0), pieces-is b (r - 1) (f .1 .1))
 
-  pub compat-no : r ≡ 0 → false ≡ compatibleText a b
+  pub compatible-no : r ≡ 0 → false ≡ compatibleText a b
   unfolding compatibleText
-  compat-no h = rw (m .differ h)
+  compatible-no h = rw (m .differ h)
 
   pub mixed-yes : 0 < r → not (samePieceNames (piecesAt a (r - 1)) (piecesAt b (r - 1))) ≡ mixedText a b
   unfolding mixedText

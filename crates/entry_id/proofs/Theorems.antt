@@ -1,17 +1,15 @@
 -- The theorem on entry IDs. Assumes nothing.
-use mathlib.Core.Path.{_≡_, sym, ap, _∙_}
-use mathlib.Core.Bool.{Bool}
+use mathlib.Core.Path.{_≡_}
 use mathlib.Core.List.{List, map}
 use Prim.Native.Nat.{ℕ}
-use lib.Dec.{T}
 use Rattle.wire.proofs.Bools.{bool-ext}
 use Rattle.entry_id.specs.Meaning.{feature, piecesOf, meaning, meaningOf, rising, sort}
 use Rattle.entry_id.specs.Canonical.{sameText}
 use Rattle.entry_id.specs.Theorems.{EntryIds, distinct}
-use Rattle.entry_id.proofs.ReadBack.{canon-meaning, same-canon, canon-valid, canon-size, canon-twice, canon-refused}
-use Rattle.entry_id.proofs.FeatureLaws.{features-stated, distinct-rising, rising-distinct, twice-eq, eq-twice, one-entry}
+use Rattle.entry_id.proofs.ReadBack.{canon-meaning, same-canon, canon-valid, canon-size, canon-again, canon-refused}
+use Rattle.entry_id.proofs.FeatureLaws.{features-stated, distinct-rising, rising-distinct, sameMeaning-eq, eq-sameMeaning, one-entry}
 use Rattle.entry_id.proofs.CompareLaws.{names-sets}
-use Rattle.entry_id.proofs.CanonicalLaws.{compat-canonical, mixed-canonical, twice-canonical}
+use Rattle.entry_id.proofs.CanonicalLaws.{compatible-canonical, mixed-canonical, same-canonical}
 
 stated-once : (x : List ℕ) → rising (meaning x .features) ≡ distinct (map feature (piecesOf x))
 unfolding meaning meaningOf
@@ -26,14 +24,14 @@ entryIds = record {
   one-form = same-canon;
   form-valid = canon-valid;
   form-size = canon-size;
-  form-again = canon-twice;
+  form-again = canon-again;
   form-none = canon-refused;
   features-stated = features-stated;
   stated-once = stated-once;
-  same-is-equal = λ a b. (twice-eq a b, eq-twice a b);
+  same-is-equal = λ a b. (sameMeaning-eq a b, eq-sameMeaning a b);
   same-names = names-sets;
   one-compatible = one-entry;
-  compatible-text = compat-canonical;
-  same-text = twice-canonical;
+  compatible-text = compatible-canonical;
+  same-text = same-canonical;
   mixed-text = mixed-canonical;
 }

@@ -1,17 +1,16 @@
 -- The canonical form written part by part. Assumes nothing.
 use Prim.Native.Nat.{ℕ, zero, suc, _+_, _-_, _≤_, _<_}
 use mathlib.Core.Path.{_≡_, refl, sym, ap, _∙_}
-use mathlib.Core.List.{List, [], _∷_, _++_, append-assoc}
+use mathlib.Core.List.{List, [], _∷_, _++_}
 use native.Mathlib.Numerals.{add-one}
 use native.Mathlib.Omega.{arith}
-use lib.ListN.{length, getD, take, drop, length-append, length-take, length-drop, take-append-drop, replicate, drop-of-length-le}
-use lib.Seq.{length-take-le, take-at, drop-append-add, drop-drop, drop-cons, getD-take}
+use lib.ListN.{length, getD, take, drop, length-append, length-take, length-drop, replicate, drop-of-length-le}
+use lib.Seq.{length-take-le, drop-cons, getD-take}
 use Rattle.wire.specs.Bytes.{overwrite}
 use Rattle.wire.proofs.OverwriteLaws.{overwrite-nil, overwrite-next, overwrite-then}
 use Rattle.entry_id.specs.Code.Spans.{chunkOf, chunks, noSpan, headText}
 use Rattle.entry_id.specs.Code.Scan.{part}
 use Rattle.entry_id.specs.declared.features.Span.{Span}
-use Rattle.entry_id.proofs.PieceLaws.{append-nil}
 
 -- ---- the features one after the other
 

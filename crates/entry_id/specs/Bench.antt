@@ -1,8 +1,6 @@
 -- Document 01's "Bench pieces" on entry IDs, starred and not, as one record: proofs/BenchProof.antt has its proof, by computation. Statements only.
-use Prim.Native.Nat.{ℕ}
 use mathlib.Core.Path.{_≡_}
-use mathlib.Core.Bool.{Bool, true, false}
-use mathlib.Core.List.{List}
+use mathlib.Core.Bool.{true, false}
 use lib.ListN.{length}
 use Rattle.wire.specs.Bytes.{bytes}
 use Rattle.entry_id.specs.Meaning.{meaning, valid, canon}

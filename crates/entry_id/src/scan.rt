@@ -5,7 +5,7 @@ ghost use mathlib.Core.Bool.{true, false};
 ghost use mathlib.Core.List.{[], _++_};
 ghost use lib.ListN.{length, getD, take, drop};
 ghost use Rattle.entry_id.specs.Meaning.{fieldByte, nameByte};
-ghost use Rattle.entry_id.specs.Code.Scan.{Run, endsAt, notColon};
+ghost use Rattle.entry_id.specs.Code.Scan.{Run, inClass, endsAt, notColon};
 
 fn name_byte(b: u8) -> bool
     ensures { λ r. ⌜ r ≡ nameByte b ⌝ }
@@ -19,14 +19,31 @@ fn field_byte(b: u8) -> bool
     name_byte(b) | ((65 <= b) & (b <= 90)) | (b == 46)
 }
 
-// The end of the run of field bytes that starts at from.
-pub(crate) fn field_end(id: &[u8], from: usize) -> usize
-    requires { ⌜ from ≤ length (now id) ⌝ }
-    ensures { λ r. ⌜ Run fieldByte (now (id .entry)) from r ⌝ }
+// A class of bytes.
+pub(crate) enum Class {
+    Field,
+    Name,
+    NotColon,
+}
+
+fn in_class(class: Class, b: u8) -> bool
+    ensures { λ r. ⌜ r ≡ inClass class b ⌝ }
+{
+    match class {
+        Class::Field => field_byte(b),
+        Class::Name => name_byte(b),
+        Class::NotColon => b != b':',
+    }
+}
+
+// The end of the run of bytes of the class that starts at from.
+fn run_end(x: &[u8], from: usize, class: Class) -> usize
+    requires { ⌜ from ≤ length (now x) ⌝ }
+    ensures { λ r. ⌜ Run (inClass class) (now (x .entry)) from r ⌝ }
 {
     let mut i = from;
-    while i < id.len() {
-        if !field_byte(id[i]) {
+    while i < x.len() {
+        if !in_class(class, x[i]) {
             return i;
         }
         i += 1;
@@ -34,19 +51,26 @@ pub(crate) fn field_end(id: &[u8], from: usize) -> usize
     i
 }
 
-// The end of the run of name bytes that starts at from.
-pub(crate) fn name_end(id: &[u8], from: usize) -> usize
-    requires { ⌜ from ≤ length (now id) ⌝ }
-    ensures { λ r. ⌜ Run nameByte (now (id .entry)) from r ⌝ }
+pub(crate) fn field_end(x: &[u8], from: usize) -> usize
+    requires { ⌜ from ≤ length (now x) ⌝ }
+    ensures { λ r. ⌜ Run fieldByte (now (x .entry)) from r ⌝ }
 {
-    let mut i = from;
-    while i < id.len() {
-        if !name_byte(id[i]) {
-            return i;
-        }
-        i += 1;
-    }
-    i
+    run_end(x, from, Class::Field)
+}
+
+pub(crate) fn name_end(x: &[u8], from: usize) -> usize
+    requires { ⌜ from ≤ length (now x) ⌝ }
+    ensures { λ r. ⌜ Run nameByte (now (x .entry)) from r ⌝ }
+{
+    run_end(x, from, Class::Name)
+}
+
+// The first ':' from `from` on, or the end.
+pub(crate) fn colon(x: &[u8], from: usize) -> usize
+    requires { ⌜ from ≤ length (now x) ⌝ }
+    ensures { λ r. ⌜ Run notColon (now (x .entry)) from r ⌝ }
+{
+    run_end(x, from, Class::NotColon)
 }
 
 // The byte at i, or 0 past the end.
@@ -60,19 +84,4 @@ pub(crate) fn ends(id: &[u8], i: usize) -> bool
     ensures { λ r. ⌜ r ≡ endsAt (now (id .entry)) i ⌝ }
 {
     if i < id.len() { id[i] == b':' } else { true }
-}
-
-// The first ':' from `from` on, or the end.
-pub(crate) fn colon(x: &[u8], from: usize) -> usize
-    requires { ⌜ from ≤ length (now x) ⌝ }
-    ensures { λ r. ⌜ Run notColon (now (x .entry)) from r ⌝ }
-{
-    let mut i = from;
-    while i < x.len() {
-        if x[i] == b':' {
-            return i;
-        }
-        i += 1;
-    }
-    i
 }

@@ -1,4 +1,4 @@
--- `idcode::canonical` meets its contract. Assumes nothing.
+-- `entry_id::canonical` meets its contract. Assumes nothing.
 use Prim.Native.Nat.{_+_, _-_, _≤_}
 use mathlib.Core.Path.{sym, _∙_, ap}
 use mathlib.Core.List.{_++_}

@@ -1,6 +1,6 @@
--- `idcode::compatible` meets its contract. Assumes nothing.
+-- `entry_id::compatible` meets its contract. Assumes nothing.
 use mathlib.Core.Path.{_∙_}
-use Rattle.entry_id.proofs.TestLaws.{compat-yes, compat-no}
+use Rattle.entry_id.proofs.TestLaws.{compatible-yes, compatible-no}
 use native.Mathlib.Omega.{arith}
 use borrow.Author.Needs.{needs}
 use Rattle.entry_id.proofs.compatible.Statement.{statement}
@@ -12,7 +12,7 @@ meet-requires c κs = search needs
 returns : tie.Need-returns
 returns c =
     let a = c .before .before .before .before .args in
-    compat-no (a .entry .now) (a .device .now) (c .before .meet .result) (c .before .meet .ensures) (c .if1 .taken)
+    compatible-no (a .entry .now) (a .device .now) (c .before .meet .result) (c .before .meet .ensures) (c .if1 .taken)
 
 sub-all-in : tie.Need-sub-all-in
 sub-all-in c = search needs
@@ -27,7 +27,7 @@ returns-2 : tie.Need-returns-2
 returns-2 c =
     let a = c .before .before .before .before .before .args in
     let m = c .before .before .meet in
-    c .all-in .ensures ∙ compat-yes (a .entry .now) (a .device .now) (m .result) (m .ensures) (omega (arith, c .before .if1 .left))
+    c .all-in .ensures ∙ compatible-yes (a .entry .now) (a .device .now) (m .result) (m .ensures) (omega (arith, c .before .if1 .left))
 
 pub compatible-spec : {M : Type 1} → statement M
 compatible-spec =

@@ -1,4 +1,4 @@
--- `idcode::mixed` meets its contract. Assumes nothing.
+-- `entry_id::mixed` meets its contract. Assumes nothing.
 use mathlib.Core.Path.{_∙_, ap}
 use mathlib.Core.Bool.{not}
 use Rattle.entry_id.proofs.TestLaws.{mixed-yes, mixed-no}

@@ -4,11 +4,21 @@ use mathlib.Core.Path.{_≡_}
 use mathlib.Core.Bool.{Bool, true, false, not, _&&_, cond}
 use mathlib.Core.List.{List, [], _∷_, _++_}
 use lib.ListN.{length, getD, take, drop, replicate}
-use lib.Dec.{T, ltb, eqb, leb}
+use lib.Dec.{T, ltb, eqb}
 use Rattle.entry_id.specs.Text.{every, any, splitOn, joinWith}
 use Rattle.wire.specs.Bytes.{empty, same}
-use Rattle.entry_id.specs.Meaning.{Meaning, fieldsOf, piecesOf, meaning, sixFields, fieldByte, kinds, valid}
+use Rattle.entry_id.specs.Meaning.{fieldsOf, piecesOf, meaning, sixFields, nameByte, fieldByte, kinds, valid}
+use Rattle.entry_id.specs.declared.scan.Class.{Class}
+use Rattle.entry_id.specs.declared.scan.Class.the-variants.{Field, Name, NotColon}
 use Rattle.entry_id.specs.Canonical.{headOf}
+
+unfoldable pub notColon : ℕ → Bool
+notColon b = not (eqb b 58)
+
+abbrev pub inClass : Class → ℕ → Bool
+inClass Field = fieldByte
+inClass Name = nameByte
+inClass NotColon = notColon
 
 -- the bytes from a up to e
 unfoldable pub part : {A : Type 0} → List A → ℕ → ℕ → List A
@@ -29,7 +39,7 @@ endsAt x e = cond (ltb e (length x)) (eqb (getD x e 0) 58) true
 unfoldable pub piecesAt : List ℕ → ℕ → List (List ℕ)
 piecesAt x e = cond (ltb e (length x)) (splitOn 58 (drop (suc e) x)) []
 
--- the first k sixFields are there and not empty, and all are made of field bytes
+-- the first k fields are there and not empty, and all are made of field bytes
 unfoldable pub filled : ℕ → List (List ℕ) → Bool
 filled zero fs = every (every fieldByte) fs
 filled (suc k) [] = false
@@ -89,9 +99,6 @@ pub record HeadIs (x : List ℕ) (ok : Bool) (at dashes stop : ℕ) (proc : Bool
   pub refused : ok ≡ false → valid x ≡ false
 
 -- ---- two texts
-
-unfoldable pub notColon : ℕ → Bool
-notColon b = not (eqb b 58)
 
 -- two heads are the same and end before place r, counted from 1; or they differ and r is 0
 pub record MeetIs (a b : List ℕ) (r : ℕ) : Type 0 where

@@ -1,13 +1,13 @@
 -- Features as spans of one text: a ':' at `at`, the name after it, its sign at `sign`. Definitions only. Assumes nothing.
-use Prim.Native.Nat.{ℕ, zero, suc, _+_, _-_, _≤_, _<_}
+use Prim.Native.Nat.{ℕ, suc, _+_, _-_, _≤_, _<_}
 use mathlib.Core.Path.{_≡_}
-use mathlib.Core.Bool.{Bool, true, false, not, _&&_, _||_, cond}
+use mathlib.Core.Bool.{Bool, true, false, _&&_, _||_, cond}
 use mathlib.Core.List.{List, [], _∷_, _++_, map}
 use lib.ListN.{length, getD, take, drop, replicate}
 use lib.Dec.{T, ltb, eqb, leb}
 use Rattle.entry_id.specs.Text.{every, splitOn}
 use Rattle.wire.specs.Bytes.{before}
-use Rattle.entry_id.specs.Meaning.{Feature, feature, nameByte, signed, named, valid, canonicalOf, meaning, canon}
+use Rattle.entry_id.specs.Meaning.{feature, nameByte, signed, named, valid, canonicalOf, meaning}
 use Rattle.entry_id.specs.Code.Scan.{part, endsAt, piecesAt}
 use Rattle.entry_id.specs.declared.features.Span.{Span}
 

@@ -1,4 +1,4 @@
--- `idcode::bare` meets its contract. Assumes nothing.
+-- `entry_id::bare` meets its contract. Assumes nothing.
 use mathlib.Core.Path.{_≡_, sym, refl}
 use Prim.Native.Nat.{_-_}
 use lib.ListN.{length}

@@ -1,4 +1,4 @@
--- `idcode::in_order` meets its contract. The loop's invariant: what is left decides. Assumes nothing.
+-- `entry_id::in_order` meets its contract. The loop's invariant: what is left decides. Assumes nothing.
 use Prim.Native.Nat.{_-_, _≤_}
 use mathlib.Core.Path.{_≡_, refl, sym, _∙_}
 use borrow.Author.Tests.{not-true, not-false}

@@ -1,4 +1,4 @@
--- `idcode::name` meets its contract. Assumes nothing.
+-- `entry_id::name` meets its contract. Assumes nothing.
 use native.Mathlib.Numerals.{add-one}
 use borrow.Author.Tests.{lt-ltb, le-ltb}
 use Rattle.entry_id.specs.Code.Scan.{part}

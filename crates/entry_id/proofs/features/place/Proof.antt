@@ -1,4 +1,4 @@
--- `idcode::place` meets its contract. The loop's invariant: the span at i has still to be put in its place, and the outcome is the same. Assumes nothing.
+-- `entry_id::place` meets its contract. The loop's invariant: the span at i has still to be put in its place, and the outcome is the same. Assumes nothing.
 use Prim.Native.Nat.{_-_, _≤_, _<_}
 use mathlib.Core.Path.{_≡_, refl, sym, _∙_}
 use lib.ListN.{length, take, length-set}

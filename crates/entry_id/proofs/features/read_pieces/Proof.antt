@@ -1,4 +1,4 @@
--- `idcode::read_pieces` meets its contract. The loop's invariant: the pieces are those in the table and those from `at` on. Assumes nothing.
+-- `entry_id::read_pieces` meets its contract. The loop's invariant: the pieces are those in the table and those from `at` on. Assumes nothing.
 use Prim.Native.Nat.{suc, _+_, _-_, _≤_, _<_}
 use mathlib.Core.Path.{_≡_, refl, sym, _∙_, subst}
 use mathlib.Core.Logic.{inl, inr}

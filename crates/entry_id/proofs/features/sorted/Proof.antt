@@ -1,4 +1,4 @@
--- `idcode::sorted` meets its contract. The loop's invariant: what follows k is in order. Assumes nothing.
+-- `entry_id::sorted` meets its contract. The loop's invariant: what follows k is in order. Assumes nothing.
 use Prim.Native.Nat.{suc, _+_, _-_, _≤_}
 use mathlib.Core.Path.{_≡_, _∙_}
 use mathlib.Core.List.{_++_}

@@ -1,4 +1,4 @@
--- `idcode::is_kind` meets its contract. Assumes nothing.
+-- `entry_id::is_kind` meets its contract. Assumes nothing.
 use denote.Ref.{now}
 use mathlib.Core.Bool.{or-false}
 use Rattle.entry_id.specs.Text.{any}

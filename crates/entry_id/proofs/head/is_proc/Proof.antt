@@ -1,4 +1,4 @@
--- `idcode::is_proc` meets its contract. Assumes nothing.
+-- `entry_id::is_proc` meets its contract. Assumes nothing.
 use mathlib.Core.Path.{sym}
 use lib.Seq.{length-take-le}
 use Rattle.entry_id.specs.Meaning.{namesProcessor}

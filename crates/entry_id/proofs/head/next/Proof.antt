@@ -1,4 +1,4 @@
--- `idcode::next` meets its contract. Assumes nothing.
+-- `entry_id::next` meets its contract. Assumes nothing.
 use Prim.Native.Nat.{_+_, suc}
 use Rattle.entry_id.specs.Meaning.{fieldByte}
 use Rattle.entry_id.specs.Code.Scan.{Run}

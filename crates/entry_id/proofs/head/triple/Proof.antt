@@ -1,4 +1,4 @@
--- `idcode::triple` meets its contract. Assumes nothing.
+-- `entry_id::triple` meets its contract. Assumes nothing.
 use mathlib.Core.Path.{sym, _∙_}
 use lib.Seq.{length-take-le}
 use borrow.Author.Tests.{not-true, not-false}

@@ -1,4 +1,4 @@
--- `idcode::put_head` meets its contract. Assumes nothing.
+-- `entry_id::put_head` meets its contract. Assumes nothing.
 use Prim.Native.Nat.{ℕ, _+_, _-_}
 use mathlib.Core.Path.{refl, sym, _∙_, ap}
 use mathlib.Core.List.{[], _∷_}

@@ -1,4 +1,4 @@
--- `idcode::put_pieces` meets its contract. The loop's invariant: what is left, written from q on, gives the outcome. Assumes nothing.
+-- `entry_id::put_pieces` meets its contract. The loop's invariant: what is left, written from q on, gives the outcome. Assumes nothing.
 use Prim.Native.Nat.{_+_, _-_, _≤_}
 use mathlib.Core.Path.{_≡_, refl, sym, _∙_, ap}
 use lib.ListN.{length, take, drop}

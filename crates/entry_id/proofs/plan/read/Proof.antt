@@ -1,4 +1,4 @@
--- `idcode::read` meets its contract. Assumes nothing.
+-- `entry_id::read` meets its contract. Assumes nothing.
 use Prim.Native.Nat.{_+_, _-_, _≤_}
 use mathlib.Core.Path.{sym, _∙_, ap, subst}
 use lib.ListN.{length}

@@ -1,4 +1,4 @@
--- `idcode::byte` meets its contract. Assumes nothing.
+-- `entry_id::byte` meets its contract. Assumes nothing.
 use lib.ListN.{List·getD-eq-default}
 use mathlib.Core.Path.{sym}
 use borrow.Author.Needs.{needs}

@@ -1,4 +1,4 @@
--- `idcode::ends` meets its contract. Assumes nothing.
+-- `entry_id::ends` meets its contract. Assumes nothing.
 use Rattle.entry_id.specs.Code.Scan.{endsAt}
 use borrow.Author.Tests.{lt-ltb, le-ltb}
 use borrow.Author.Needs.{needs}

@@ -1,4 +1,4 @@
--- `idcode::field_byte` meets its contract. Assumes nothing.
+-- `entry_id::field_byte` meets its contract. Assumes nothing.
 use borrow.Author.Needs.{needs}
 use Rattle.entry_id.specs.Meaning.{fieldByte}
 use Rattle.entry_id.proofs.scan.field_byte.Statement.{statement}

@@ -1,4 +1,4 @@
--- `idcode::name_byte` meets its contract. Assumes nothing.
+-- `entry_id::name_byte` meets its contract. Assumes nothing.
 use mathlib.Core.Path.{refl}
 use Rattle.entry_id.specs.Meaning.{nameByte}
 use Rattle.entry_id.proofs.scan.name_byte.Statement.{statement}
