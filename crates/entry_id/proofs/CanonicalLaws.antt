@@ -6,7 +6,8 @@ use mathlib.Core.Bool.{Bool, not, _&&_}
 use mathlib.Core.List.{List, [], _∷_, map}
 use lib.ListN.{getD}
 use lib.Dec.{T}
-use Rattle.entry_id.specs.Text.{splitOn, joinWith, agree}
+use Rattle.wire.specs.Lists.{agree}
+use Rattle.entry_id.specs.Text.{splitOn, joinWith}
 use Rattle.wire.specs.Bytes.{same}
 use Rattle.wire.proofs.ByteLaws.{same-refl, same-eq}
 use Rattle.wire.proofs.Bools.{bool-ext}

@@ -3,22 +3,25 @@ use Prim.Native.Nat.{ℕ, zero, suc, _+_, _-_, _<_}
 use Prim.Native.Char.{code}
 use mathlib.Core.Path.{_≡_, refl, sym, ap, _∙_, subst}
 use mathlib.Core.Logic.{inl, inr, _≢_}
-use mathlib.Core.Bool.{Bool, true, false, _&&_, _||_}
+use mathlib.Core.Bool.{Bool, true, _&&_, _||_}
 use mathlib.Core.List.{List, [], _∷_, map, List·Memᴰ, List·Memᴰ·head, List·Memᴰ·tail, List·Memᴰ·not-nil, List·Memᴰ·cases-cons, Memᴰ·cast, head-eq-of-cons-eq, tail-eq-of-cons-eq}
 use native.Mathlib.Omega.{arith}
 use lib.ListN.{length, getD, take, drop}
 use lib.Seq.{take-suc, take-all}
 use lib.Dec.{T, eqb, eqb→eq}
 use borrow.Author.Tests.{eq-eqb, ne-eqb}
-use Rattle.entry_id.specs.Text.{every, any, onFirst, splitOn, joinWith, agree}
+use Rattle.wire.proofs.SortLaws.{sort-every, sort-any, one-list}
+use Rattle.wire.specs.Lists.{agree, any, every}
+use Rattle.wire.specs.Order.{risingBy, sortBy}
+use Rattle.entry_id.specs.Text.{onFirst, splitOn, joinWith}
 use Rattle.wire.specs.Bytes.{same, before}
-use Rattle.wire.proofs.Bools.{bool-ext, and-l, and-r, and-t, or-t, or-l, or-r, cond-ind}
+use Rattle.wire.proofs.Bools.{bool-ext, and-l, and-r, and-t, or-t, or-l, or-r}
 use Rattle.wire.proofs.ByteLaws.{same-refl, same-eq}
-use Rattle.entry_id.specs.Meaning.{Feature, Meaning, piecesOf, feature, insert, sort, meaningOf, meaning, sign, piece, sixFields, signed, shaped, proper, valid, rising}
+use Rattle.entry_id.specs.Meaning.{byName, Feature, Meaning, piecesOf, feature, meaningOf, meaning, sign, piece, sixFields, signed, shaped, proper, valid}
 use Rattle.entry_id.specs.Theorems.{nameIn}
 use Rattle.entry_id.specs.Compare.{sameTarget, sameFeature, compatible, sameNames}
 use Rattle.entry_id.proofs.ReadBack.{parts, head-cut}
-use Rattle.entry_id.proofs.FeatureLaws.{sameFeature-eq, sameFeature-refl, sameTarget-eq, eq-sameTarget, one-list}
+use Rattle.entry_id.proofs.FeatureLaws.{sameFeature-eq, sameFeature-refl, sameTarget-eq, eq-sameTarget}
 
 -- ---- cutting by positions
 
@@ -38,61 +41,15 @@ split-none c (y ∷ x) n = rw (ne-eqb y c (n 0 (omega arith)), split-none c x (�
 
 -- ---- tests on the features go by the text's order
 
-or-swap : (a b c : Bool) → (a || (b || c)) ≡ (b || (a || c))
-or-swap true true c = refl
-or-swap true false c = refl
-or-swap false b c = refl
-
-and-swap : (a b c : Bool) → (a && (b && c)) ≡ (b && (a && c))
-and-swap true b c = refl
-and-swap false true c = refl
-and-swap false false c = refl
-
-insert-any : (p : Feature → Bool) (f : Feature) (l : List Feature) → any p (insert f l) ≡ (p f || any p l)
-unfolding insert any
-insert-any p f [] = refl
-insert-any p f (h ∷ l) =
-    cond-ind (λ r. any p r ≡ (p f || (p h || any p l))) (before (f .name) (h .name)) (f ∷ h ∷ l) (h ∷ insert f l) refl
-    (rw (insert-any p f l) (or-swap (p h) (p f) (any p l)))
-
-insert-every : (p : Feature → Bool) (f : Feature) (l : List Feature) → every p (insert f l) ≡ (p f && every p l)
-unfolding insert every
-insert-every p f [] = refl
-insert-every p f (h ∷ l) =
-    cond-ind (λ r. every p r ≡ (p f && (p h && every p l))) (before (f .name) (h .name)) (f ∷ h ∷ l) (h ∷ insert f l) refl
-    (rw (insert-every p f l) (and-swap (p h) (p f) (every p l)))
-
-insert-length : (f : Feature) (l : List Feature) → length (insert f l) ≡ suc (length l)
-unfolding insert
-insert-length f [] = refl
-insert-length f (h ∷ l) =
-    cond-ind (λ r. length r ≡ suc (suc (length l))) (before (f .name) (h .name)) (f ∷ h ∷ l) (h ∷ insert f l) refl
-    (ap suc (insert-length f l))
-
-pub sort-any : (p : Feature → Bool) (l : List Feature) → any p (sort l) ≡ any p l
-unfolding sort any
-sort-any p [] = refl
-sort-any p (f ∷ l) = insert-any p f (sort l) ∙ ap (λ b. p f || b) (sort-any p l)
-
-pub sort-every : (p : Feature → Bool) (l : List Feature) → every p (sort l) ≡ every p l
-unfolding sort every
-sort-every p [] = refl
-sort-every p (f ∷ l) = insert-every p f (sort l) ∙ ap (λ b. p f && b) (sort-every p l)
-
-pub sort-length : (l : List Feature) → length (sort l) ≡ length l
-unfolding sort
-sort-length [] = refl
-sort-length (f ∷ l) = insert-length f (sort l) ∙ ap suc (sort-length l)
-
 every-ext : {A : Type 0} (p q : A → Bool) → ((x : A) → p x ≡ q x) → (l : List A) → every p l ≡ every q l
 unfolding every
 every-ext p q h [] = refl
 every-ext p q h (x ∷ l) = let a = h x in let b = every-ext p q h l in cc
 
-within-sorted : (a b : List Feature) → every (λ f. any (sameFeature f) (sort b)) (sort a) ≡ every (λ f. any (sameFeature f) b) a
+within-sorted : (a b : List Feature) → every (λ f. any (sameFeature f) (sortBy byName b)) (sortBy byName a) ≡ every (λ f. any (sameFeature f) b) a
 within-sorted a b =
-    sort-every (λ f. any (sameFeature f) (sort b)) a
-    ∙ every-ext (λ f. any (sameFeature f) (sort b)) (λ f. any (sameFeature f) b) (λ f. sort-any (sameFeature f) b) a
+    sort-every byName (λ f. any (sameFeature f) (sortBy byName b)) a
+    ∙ every-ext (λ f. any (sameFeature f) (sortBy byName b)) (λ f. any (sameFeature f) b) (λ f. sort-any byName (sameFeature f) b) a
 
 -- ---- a feature is its piece
 
@@ -165,13 +122,13 @@ sameTarget-heads a b s t =
 plain : Feature → Feature
 plain f = record { name = f .name; on = true }
 
-rising-plain : (l : List Feature) → T (rising l) → T (rising (map plain l))
-unfolding rising plain
+rising-plain : (l : List Feature) → T (risingBy byName l) → T (risingBy byName (map plain l))
+unfolding risingBy plain
 rising-plain [] t = tt
 rising-plain (f ∷ []) t = tt
 rising-plain (f ∷ g ∷ l) t =
-    and-t (before (f .name) (g .name)) (rising (map plain (g ∷ l))) (and-l (before (f .name) (g .name)) (rising (g ∷ l)) t)
-    (rising-plain (g ∷ l) (and-r (before (f .name) (g .name)) (rising (g ∷ l)) t))
+    and-t (before (f .name) (g .name)) (risingBy byName (map plain (g ∷ l))) (and-l (before (f .name) (g .name)) (risingBy byName (g ∷ l)) t)
+    (rising-plain (g ∷ l) (and-r (before (f .name) (g .name)) (risingBy byName (g ∷ l)) t))
 
 in-plain : (f : Feature) (l : List Feature) → T (nameIn f l) → List·Memᴰ (plain f) (map plain l)
 unfolding nameIn any plain
@@ -224,12 +181,12 @@ plain-names (x ∷ a) (y ∷ b) e =
     (subst (λ (h : Feature). T (same (x .name) (h .name))) (head-eq-of-cons-eq e) (same-refl (x .name)))
     (plain-names a b (tail-eq-of-cons-eq e))
 
-pub names-sets : (a b : List Feature) → T (rising a) → T (rising b) → sameNames a b ≡ (every (λ f. nameIn f b) a && every (λ g. nameIn g a) b)
+pub names-sets : (a b : List Feature) → T (risingBy byName a) → T (risingBy byName b) → sameNames a b ≡ (every (λ f. nameIn f b) a && every (λ g. nameIn g a) b)
 names-sets a b s t =
     bool-ext (sameNames a b) (every (λ f. nameIn f b) a && every (λ g. nameIn g a) b)
     (λ u. let e = names-plain a b u in
     and-t (every (λ f. nameIn f b) a) (every (λ g. nameIn g a) b)
     (in-all a b (λ h m. rw e at m)) (in-all b a (λ h m. rw (sym e) at m)))
-    (λ u. plain-names a b (one-list (map plain a) (map plain b) (rising-plain a s) (rising-plain b t)
+    (λ u. plain-names a b (one-list byName (map plain a) (map plain b) (rising-plain a s) (rising-plain b t)
     (all-in a b (and-l (every (λ f. nameIn f b) a) (every (λ g. nameIn g a) b) u))
     (all-in b a (and-r (every (λ f. nameIn f b) a) (every (λ g. nameIn g a) b) u))))

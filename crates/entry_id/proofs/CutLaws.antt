@@ -3,12 +3,13 @@ use Prim.Native.Nat.{ℕ, suc, _+_, _-_, _≤_, _<_}
 use mathlib.Core.Path.{_≡_, refl, sym, ap, _∙_, subst}
 use mathlib.Core.Logic.{inl, inr, _≢_}
 use mathlib.Core.Bool.{Bool, true, false, _&&_}
-use mathlib.Core.List.{List, [], _∷_, _++_}
+use mathlib.Core.List.{append-nil, List, [], _∷_, _++_}
 use lib.ListN.{length, getD, drop, drop-of-length-le}
 use lib.Seq.{drop-cons}
 use lib.Dec.{T, eqb, ltb, eqb→eq}
 use borrow.Author.Tests.{eqb-true, eqb-false, ne-eqb, lt-ltb, le-ltb}
-use Rattle.entry_id.specs.Text.{every, splitOn, onFirst}
+use Rattle.wire.specs.Lists.{every}
+use Rattle.entry_id.specs.Text.{splitOn, onFirst}
 use Rattle.wire.specs.Bytes.{same}
 use Rattle.wire.proofs.Bools.{and-l, and-r, is-false, cases}
 use Rattle.entry_id.proofs.TextLaws.{split-last, split-skip, split-some}
@@ -101,10 +102,6 @@ module _ (x : List ℕ) (s a : ℕ) (h : Run fieldByte x s a) where
 
   none : length x ≤ a → drop s x ≡ part x s a
   none k = part-drop x s a (h .low) ∙ ap (λ r. part x s a ++ r) (drop-of-length-le x k) ∙ append-nil (part x s a)
-    where
-      append-nil : (l : List ℕ) → l ++ [] ≡ l
-      append-nil [] = refl
-      append-nil (y ∷ l) = ap (λ r. y ∷ r) (append-nil l)
 
   cut-dash : a < length x → getD x a 0 ≡ 45 → Cut x s a
   cut-dash k e =

@@ -3,12 +3,13 @@ use Prim.Native.Nat.{ℕ, suc, _+_, _-_, _≤_}
 use mathlib.Core.Path.{_≡_, refl, sym, ap, _∙_, subst}
 use mathlib.Core.Logic.{inl, inr}
 use mathlib.Core.Bool.{Bool, true, false, not}
-use mathlib.Core.List.{List, [], _∷_, _++_, append-assoc}
+use mathlib.Core.List.{append-nil, List, [], _∷_, _++_, append-assoc}
 use native.Mathlib.Omega.{arith}
 use lib.ListN.{length, getD, take, drop, replicate}
 use lib.Dec.{T, eqb, ltb}
 use borrow.Author.Tests.{eqb-true, eqb-false, lt-ltb, le-ltb, ltb-true, ltb-false}
-use Rattle.entry_id.specs.Text.{every, any, splitOn, joinWith}
+use Rattle.wire.specs.Lists.{any, every}
+use Rattle.entry_id.specs.Text.{splitOn, joinWith}
 use Rattle.wire.specs.Bytes.{same, empty}
 use Rattle.wire.proofs.Bools.{and-r, and-t, is-false, cases}
 use Rattle.entry_id.proofs.TextLaws.{split-some}
@@ -17,10 +18,6 @@ use Rattle.entry_id.specs.Code.Scan.{part, Run, Triple, HeadAt, HeadIs, 
 use Rattle.entry_id.proofs.RunLaws.{part-none, part-length, part-cons, take-step, byte-inside}
 use Rattle.entry_id.proofs.CutLaws.{skip-fields, skip-pieces, last-fields, bad-fields}
 use Rattle.entry_id.proofs.HeadLaws.{valid-bytes, valid-count, not-t}
-
-append-nil : (l : List ℕ) → l ++ [] ≡ l
-append-nil [] = refl
-append-nil (y ∷ l) = ap (λ r. y ∷ r) (append-nil l)
 
 regroup : (k a v s e p : List ℕ) → k ++ a ++ v ++ s ++ e ++ p ≡ k ++ (a ++ (v ++ (s ++ (e ++ p))))
 regroup k a v s e p = simp append-assoc

@@ -1,18 +1,17 @@
 -- What the scan of the head finds, against `fieldsOf` and `valid`. Assumes nothing.
 use Prim.Native.Nat.{ℕ, zero, suc, _+_, _-_, _≤_, _<_}
-use mathlib.Core.Path.{_≡_, refl, sym, ap, _∙_, subst}
-use mathlib.Core.Logic.{inl, inr, _≢_}
+use mathlib.Core.Path.{_≡_, refl, ap, _∙_, subst}
+use mathlib.Core.Logic.{_≢_}
 use mathlib.Core.Bool.{Bool, true, false, not, _&&_, cond}
 use mathlib.Core.List.{List, [], _∷_, _++_, append-assoc}
 use native.Mathlib.Omega.{arith}
 use lib.ListN.{length, getD, take, drop}
 use lib.Dec.{T, leb, leb→le}
-use Rattle.entry_id.specs.Text.{every, any}
+use Rattle.wire.specs.Lists.{any, every}
 use Rattle.wire.specs.Bytes.{same, empty}
-use Rattle.wire.proofs.Bools.{and-l, and-r, and-t, or-t, is-false, of-true}
-use Rattle.wire.proofs.ByteLaws.{same-eq}
+use Rattle.wire.proofs.Bools.{and-l, and-r, and-t, is-false, of-true}
 use Rattle.entry_id.specs.Meaning.{fieldsOf, piecesOf, fieldByte, namesProcessor, fifthIsProcessor, meaningOf, meaning, kinds, shaped, proper, valid}
-use Rattle.entry_id.proofs.ReadBack.{Proper, parts, kind-bytes, proper-meaning}
+use Rattle.entry_id.proofs.ReadBack.{any-holds, Proper, parts, kind-bytes, proper-meaning}
 use Rattle.entry_id.specs.Code.Scan.{part, Run, Next, Triple, filled}
 use Rattle.entry_id.proofs.RunLaws.{part-none, part-start, part-length, take-step, byte-inside, some-of}
 use Rattle.entry_id.proofs.CutLaws.{at-dash, at-end, at-bad, cut, skip-fields, skip-pieces}
@@ -66,14 +65,6 @@ module _ (x : List ℕ) (s a k : ℕ) (h : Run fieldByte x s a) where
   ])
 
 -- ---- what `valid` asks of the fields
-
-any-holds : (q : List ℕ → Bool) (k : List ℕ) (l : List (List ℕ)) → T (any (same k) l) → T (every q l) → T (q k)
-unfolding any every
-any-holds q k [] s t = absurd s
-any-holds q k (x ∷ l) s t = elim (or-t (same k x) (any (same k) l) s) [
-  | inl u ↦ subst (λ y. T (q y)) (sym (same-eq k x u)) (and-l (q x) (every q l) t)
-  | inr u ↦ any-holds q k l u (and-r (q x) (every q l) t)
-]
 
 kind-some : (k : List ℕ) → T (any (same k) kinds) → T (not (empty k))
 unfolding kinds every empty

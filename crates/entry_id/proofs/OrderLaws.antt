@@ -2,18 +2,18 @@
 use Prim.Native.Nat.{ℕ, suc, _+_, _-_, _≤_, _<_}
 use mathlib.Core.Path.{_≡_, refl, sym, ap, _∙_}
 use mathlib.Core.Bool.{Bool, true, false}
-use mathlib.Core.List.{List, [], _∷_, _++_}
+use mathlib.Core.List.{append-nil, List, [], _∷_, _++_}
 use native.Mathlib.Numerals.{add-one}
 use native.Mathlib.Omega.{arith}
 use lib.ListN.{length, getD, take, drop, set, length-append, length-take, length-set, length-drop, drop-of-length-le}
 use lib.Seq.{take-suc, take-all, take-suc-set, take-set-le, take-set-lt, drop-set-lt, getD-set-same, getD-take, drop-cons, split-at, append-snoc, length-take-le, take-at, drop-at, getD-at}
+use Rattle.wire.specs.Order.{insertBy, risingBy, sortBy}
 use Rattle.wire.specs.Bytes.{before}
-use Rattle.entry_id.specs.Code.Spans.{nameOf, insertS, sortS, risingS, placed, noSpan}
+use Rattle.entry_id.specs.Code.Spans.{nameOf, placed, noSpan}
 use Rattle.entry_id.specs.declared.features.Span.{Span}
-use Rattle.entry_id.proofs.PieceLaws.{append-nil}
 
-one-rises : (x : List ℕ) (l : List Span) → length l ≤ 1 → risingS x l ≡ true
-unfolding risingS
+one-rises : (x : List ℕ) (l : List Span) → length l ≤ 1 → risingBy (nameOf x) l ≡ true
+unfolding risingBy
 one-rises x [] k = refl
 one-rises x (s ∷ []) k = refl
 one-rises x (s ∷ r ∷ l) k = absurd (omega arith)
@@ -30,11 +30,11 @@ module _ (x : List ℕ) (t : List Span) (i : ℕ) where
   next-two h = drop-cons t (suc i) noSpan h
 
   pub placed-stop : suc i < length t → before (nameOf x (getD t i noSpan)) (nameOf x (getD t (suc i) noSpan)) ≡ true → placed x t i ≡ t
-  unfolding placed insertS f g
+  unfolding placed insertBy f g
   placed-stop h e = rw (next-two h, e, sym (next-two h)) (sym (split-at t i noSpan (omega arith)))
 
   pub placed-end : i < length t → length t ≤ suc i → placed x t i ≡ t
-  unfolding placed insertS
+  unfolding placed insertBy
   placed-end h k =
       let e = drop-of-length-le t {i = suc i} k in
       let s = split-at t i noSpan h in
@@ -42,40 +42,40 @@ module _ (x : List ℕ) (t : List Span) (i : ℕ) where
 
   pub placed-step : suc i < length t → before (nameOf x (getD t i noSpan)) (nameOf x (getD t (suc i) noSpan)) ≡ false
       → placed x (set (set t i (getD t (suc i) noSpan)) (suc i) (getD t i noSpan)) (suc i) ≡ placed x t i
-  unfolding placed insertS f g
+  unfolding placed insertBy f g
   placed-step h e =
       let u = set t i g in
       let a : take (suc i) (set u (suc i) f) ≡ take i t ++ g ∷ [] = take-set-le (suc i) u (suc i) f (omega arith) ∙ take-suc-set t i g (omega arith) in
       let b : getD (set u (suc i) f) (suc i) noSpan ≡ f = getD-set-same u (suc i) f noSpan (omega (arith, length-set t i g)) in
       let c : drop (suc (suc i)) (set u (suc i) f) ≡ drop (suc (suc i)) t = drop-set-lt (suc (suc i)) u (suc i) f (omega arith) ∙ drop-set-lt (suc (suc i)) t i g (omega arith) in
-      let p : placed x (set u (suc i) f) (suc i) ≡ take i t ++ g ∷ [] ++ insertS x f (drop (suc (suc i)) t) = rw (a, b, c) in
-      let q : placed x t i ≡ take i t ++ (g ∷ insertS x f (drop (suc (suc i)) t)) = rw (next-two h, e) in
-      p ∙ append-snoc (take i t) g (insertS x f (drop (suc (suc i)) t)) ∙ sym q
+      let p : placed x (set u (suc i) f) (suc i) ≡ take i t ++ g ∷ [] ++ insertBy (nameOf x) f (drop (suc (suc i)) t) = rw (a, b, c) in
+      let q : placed x t i ≡ take i t ++ (g ∷ insertBy (nameOf x) f (drop (suc (suc i)) t)) = rw (next-two h, e) in
+      p ∙ append-snoc (take i t) g (insertBy (nameOf x) f (drop (suc (suc i)) t)) ∙ sym q
 
-  pub rising-step : suc i < length t → before (nameOf x (getD t i noSpan)) (nameOf x (getD t (suc i) noSpan)) ≡ true → risingS x (drop i t) ≡ risingS x (drop (suc i) t)
-  unfolding risingS f g
+  pub rising-step : suc i < length t → before (nameOf x (getD t i noSpan)) (nameOf x (getD t (suc i) noSpan)) ≡ true → risingBy (nameOf x) (drop i t) ≡ risingBy (nameOf x) (drop (suc i) t)
+  unfolding risingBy f g
   rising-step h e = rw (drop-cons t i noSpan (omega arith), next-two h, e)
 
-  pub rising-stop : suc i < length t → before (nameOf x (getD t i noSpan)) (nameOf x (getD t (suc i) noSpan)) ≡ false → risingS x (drop i t) ≡ false
-  unfolding risingS f g
+  pub rising-stop : suc i < length t → before (nameOf x (getD t i noSpan)) (nameOf x (getD t (suc i) noSpan)) ≡ false → risingBy (nameOf x) (drop i t) ≡ false
+  unfolding risingBy f g
   rising-stop h e = rw (drop-cons t i noSpan (omega arith), next-two h, e)
 
-  pub rising-end : length t ≤ suc i → risingS x (drop i t) ≡ true
+  pub rising-end : length t ≤ suc i → risingBy (nameOf x) (drop i t) ≡ true
   rising-end h = one-rises x (drop i t) (omega (arith, length-drop i t))
 
 -- the list after the first elements are put in order
-module _ (x : List ℕ) (s t : List Span) (k : ℕ) (h : k < length s) (e : t ≡ take (suc k) s ++ sortS x (drop (suc k) s)) where
-  pub sort-step : placed x t k ≡ take k s ++ sortS x (drop k s)
-  unfolding placed sortS
+module _ (x : List ℕ) (s t : List Span) (k : ℕ) (h : k < length s) (e : t ≡ take (suc k) s ++ sortBy (nameOf x) (drop (suc k) s)) where
+  pub sort-step : placed x t k ≡ take k s ++ sortBy (nameOf x) (drop k s)
+  unfolding placed sortBy
   sort-step =
       let v = getD s k noSpan in
-      let r = sortS x (drop (suc k) s) in
+      let r = sortBy (nameOf x) (drop (suc k) s) in
       let w : t ≡ take k s ++ v ∷ r = e ∙ ap (λ l. l ++ r) (take-suc s k noSpan h) ∙ append-snoc (take k s) v r in
       let n = length-take-le k s (omega arith) in
       let a : take k t ≡ take k s = ap (take k) w ∙ take-at (take k s) (v ∷ r) k n in
       let b : getD t k noSpan ≡ v = ap (λ l. getD l k noSpan) w ∙ getD-at (take k s) v r noSpan k n in
       let c : drop (suc k) t ≡ r = ap (drop (suc k)) (w ∙ sym (append-snoc (take k s) v r)) ∙ drop-at (take k s ++ v ∷ []) r (suc k) (omega (arith, length-append (take k s) (v ∷ []))) in
-      let d : sortS x (drop k s) ≡ insertS x v r = ap (sortS x) (drop-cons s k noSpan h) in
+      let d : sortBy (nameOf x) (drop k s) ≡ insertBy (nameOf x) v r = ap (sortBy (nameOf x)) (drop-cons s k noSpan h) in
       rw (a, b, c, d)
 
 -- ---- the same for the first n elements of a table
@@ -105,18 +105,18 @@ module _ (x : List ℕ) (u : List Span) (n i : ℕ) (room : n ≤ length u) wher
       let s = placed-step x (take n u) i (omega (arith, len)) (test false h e) in
       rw a (rw (add-one i) (rw (fe, ge) at s))
 
-  pub order-step : i + 1 < n → before (nameOf x (getD u i noSpan)) (nameOf x (getD u (i + 1) noSpan)) ≡ true → risingS x (drop i (take n u)) ≡ risingS x (drop (i + 1) (take n u))
+  pub order-step : i + 1 < n → before (nameOf x (getD u i noSpan)) (nameOf x (getD u (i + 1) noSpan)) ≡ true → risingBy (nameOf x) (drop i (take n u)) ≡ risingBy (nameOf x) (drop (i + 1) (take n u))
   order-step h e = rw (add-one i) (rising-step x (take n u) i (omega (arith, len)) (test true h e))
 
-  pub order-stop : i + 1 < n → before (nameOf x (getD u i noSpan)) (nameOf x (getD u (i + 1) noSpan)) ≡ false → risingS x (drop i (take n u)) ≡ false
+  pub order-stop : i + 1 < n → before (nameOf x (getD u i noSpan)) (nameOf x (getD u (i + 1) noSpan)) ≡ false → risingBy (nameOf x) (drop i (take n u)) ≡ false
   order-stop h e = rising-stop x (take n u) i (omega (arith, len)) (test false h e)
 
-  pub order-end : n ≤ i + 1 → risingS x (drop i (take n u)) ≡ true
+  pub order-end : n ≤ i + 1 → risingBy (nameOf x) (drop i (take n u)) ≡ true
   order-end h = rising-end x (take n u) i (omega (arith, len))
 
 -- all in order, and none yet
-pub sort-none : (x : List ℕ) (t : List Span) (n : ℕ) → take n t ≡ take n (take n t) ++ sortS x (drop n (take n t))
-unfolding sortS
+pub sort-none : (x : List ℕ) (t : List Span) (n : ℕ) → take n t ≡ take n (take n t) ++ sortBy (nameOf x) (drop n (take n t))
+unfolding sortBy
 sort-none x t n =
     let l : length (take n t) ≤ n = omega (arith, length-take n t) in
     rw (drop-of-length-le (take n t) l, take-all n (take n t) l) (sym (append-nil (take n t)))

@@ -3,26 +3,24 @@ use Prim.Native.Nat.{ℕ, suc, _+_, _-_, _≤_, _<_}
 use mathlib.Core.Path.{_≡_, refl, sym, ap, _∙_, subst}
 use mathlib.Core.Logic.{inl, inr}
 use mathlib.Core.Bool.{Bool, true, false, not, cond}
-use mathlib.Core.List.{List, [], _∷_, _++_, append-assoc}
+use mathlib.Core.List.{append-nil, List, [], _∷_, _++_, append-assoc}
 use native.Mathlib.Numerals.{add-one}
 use native.Mathlib.Omega.{arith}
 use lib.ListN.{length, getD, take, drop, length-append, length-drop, drop-of-length-le}
 use lib.Seq.{take-at, getD-at, drop-cons, getD-drop, getD-append-add}
 use lib.Dec.{T, eqb, ltb, eqb→eq}
 use borrow.Author.Tests.{eqb-true, lt-ltb, le-ltb, ltb-true, ltb-false}
-use Rattle.entry_id.specs.Text.{every, splitOn, joinWith}
+use Rattle.wire.specs.Lists.{every}
+use Rattle.entry_id.specs.Text.{splitOn, joinWith}
 use Rattle.wire.specs.Bytes.{empty}
 use Rattle.wire.proofs.Bools.{and-l, and-r, and-t, or-t, is-true, is-false, of-true, cases}
 use Rattle.entry_id.proofs.TextLaws.{every-append, every-imp, split-last, split-skip, split-some, join-split}
 use Rattle.entry_id.specs.Meaning.{feature, piece, sign, signed, named, nameByte}
 use Rattle.entry_id.proofs.CompareLaws.{piece-feature}
-use Rattle.entry_id.specs.Code.Scan.{part, Run, endsAt, piecesAt}
+use Rattle.entry_id.proofs.ReadBack.{no-colon}
+use Rattle.entry_id.specs.Code.Scan.{notColon, part, Run, endsAt, piecesAt}
 use Rattle.entry_id.specs.Code.Spans.{pieceOk, signByte, Piece}
 use Rattle.entry_id.proofs.RunLaws.{part-drop, part-more, part-length, byte-inside, some-of}
-
-pub append-nil : {A : Type 0} (l : List A) → l ++ [] ≡ l
-append-nil [] = refl
-append-nil (y ∷ l) = ap (λ r. y ∷ r) (append-nil l)
 
 some-none : T (not (empty {A = ℕ} [])) → ⊥
 unfolding empty
@@ -136,13 +134,6 @@ module _ (x : List ℕ) (a r : ℕ) (h : Run nameByte x a r) where
       first-good q qs e (and-l (pieceOk q) (every pieceOk qs) (rw e at t))
 
 -- ---- a piece that was found
-
-notColon : ℕ → Bool
-notColon b = not (eqb b 58)
-
-no-colon : T (notColon 58) → ⊥
-unfolding notColon
-no-colon t = t
 
 name-not-colon : (b : ℕ) → T (nameByte b) → T (notColon b)
 unfolding nameByte notColon

@@ -3,27 +3,30 @@ use Prim.Native.Nat.{ℕ, suc, _+_, _-_, _≤_, _<_}
 use mathlib.Core.Path.{_≡_, refl, sym, ap, _∙_, subst}
 use mathlib.Core.Logic.{inl, inr}
 use mathlib.Core.Bool.{Bool, true, false, not, _&&_, _||_, cond}
-use mathlib.Core.List.{List, [], _∷_, _++_, map}
+use mathlib.Core.List.{append-nil, List, [], _∷_, _++_, map}
 use native.Mathlib.Omega.{arith}
 use lib.ListN.{length, take, drop, length-append, length-map, length-drop, drop-of-length-le, replicate, length-replicate}
 use lib.Seq.{length-take-le, drop-cons}
 use lib.Dec.{T, ltb, leb, le→leb, leb→le, ltb→lt}
 use borrow.Author.Tests.{lt-ltb, ltb-true, ltb-false}
-use Rattle.entry_id.specs.Text.{every, any, splitOn, joinWith}
+use Rattle.wire.proofs.SortLaws.{sort-every, sort-length}
+use Rattle.wire.specs.Lists.{any, every}
+use Rattle.wire.specs.Order.{insertBy, risingBy, sortBy}
+use Rattle.entry_id.specs.Text.{splitOn, joinWith}
 use Rattle.wire.specs.Bytes.{same, empty, before}
 use Rattle.wire.proofs.Bools.{and-l, and-r, and-t, or-t, or-l, or-r, is-true, is-false, of-true, cond-ind, cases}
 use Rattle.entry_id.proofs.TextLaws.{split-some, join-split}
-use Rattle.entry_id.specs.Meaning.{Feature, fieldsOf, piecesOf, feature, insert, sort, meaningOf, meaning, piece, sixFields, canonicalOf, fieldByte, kinds, signed, named, rising, shaped, proper, valid, canon}
+use Rattle.entry_id.specs.Meaning.{byName, Feature, fieldsOf, piecesOf, feature, meaningOf, meaning, piece, sixFields, canonicalOf, fieldByte, kinds, signed, named, shaped, proper, valid, canon}
 use Rattle.entry_id.proofs.ReadBack.{parts, canon-is, canon-refused}
-use Rattle.entry_id.proofs.CompareLaws.{piece-feature, sort-every, sort-length, valid-signed}
+use Rattle.entry_id.proofs.CompareLaws.{piece-feature, valid-signed}
 use Rattle.entry_id.specs.Code.Scan.{part, HeadAt, piecesAt}
-use Rattle.entry_id.specs.Code.Spans.{pieceOk, good, pieceAt, nameOf, chunkOf, chunks, Pieces, insertS, sortS, risingS, headText, PlanAt, PlanIs}
+use Rattle.entry_id.specs.Code.Spans.{pieceOk, good, pieceAt, nameOf, chunkOf, chunks, Pieces, headText, PlanAt, PlanIs}
 use Rattle.entry_id.specs.Canonical.{canonicalIn}
 use Rattle.entry_id.specs.declared.features.Span.{Span}
 use Rattle.entry_id.proofs.RunLaws.{part-cons, part-length}
 use Rattle.wire.specs.Bytes.{overwrite}
 use Rattle.wire.proofs.OverwriteLaws.{overwrite-in, overwrite-then}
-use Rattle.entry_id.proofs.PieceLaws.{append-nil, piece-ok, name-is, colon-there}
+use Rattle.entry_id.proofs.PieceLaws.{piece-ok, name-is, colon-there}
 use Rattle.entry_id.proofs.SpanLaws.{Good, good-parts, pieces-here, pieces-none}
 use Rattle.entry_id.proofs.HeadLaws.{not-t, valid-parts}
 
@@ -68,26 +71,9 @@ module _ (x : List ℕ) (s : Span) (t : T (good x s)) where
 
 -- ---- order
 
-and-swap : (a b c : Bool) → (a && (b && c)) ≡ (b && (a && c))
-and-swap true b c = refl
-and-swap false true c = refl
-and-swap false false c = refl
-
-insertS-every : (p : Span → Bool) (x : List ℕ) (f : Span) (l : List Span) → every p (insertS x f l) ≡ (p f && every p l)
-unfolding insertS every
-insertS-every p x f [] = refl
-insertS-every p x f (h ∷ l) =
-    cond-ind (λ r. every p r ≡ (p f && (p h && every p l))) (before (nameOf x f) (nameOf x h)) (f ∷ h ∷ l) (h ∷ insertS x f l) refl
-    (rw (insertS-every p x f l) (and-swap (p h) (p f) (every p l)))
-
-pub sortS-every : (p : Span → Bool) (x : List ℕ) (l : List Span) → every p (sortS x l) ≡ every p l
-unfolding sortS every
-sortS-every p x [] = refl
-sortS-every p x (f ∷ l) = insertS-every p x f (sortS x l) ∙ ap (λ b. p f && b) (sortS-every p x l)
-
 module _ (x : List ℕ) where
-  map-insert : (f : Span) (l : List Span) → T (good x f) → T (every (good x) l) → insert (featOf x f) (map (featOf x) l) ≡ map (featOf x) (insertS x f l)
-  unfolding insert insertS every
+  map-insert : (f : Span) (l : List Span) → T (good x f) → T (every (good x) l) → insertBy byName (featOf x f) (map (featOf x) l) ≡ map (featOf x) (insertBy (nameOf x) f l)
+  unfolding insertBy every
   map-insert f [] s t = refl
   map-insert f (h ∷ l) s t =
       let a = name-of x f s in
@@ -98,16 +84,16 @@ module _ (x : List ℕ) where
         | inr e ↦ rw (q ∙ e, e) (ap (λ r. featOf x h ∷ r) (map-insert f l s (and-r (good x h) (every (good x) l) t)))
       ]
 
-  map-sort : (l : List Span) → T (every (good x) l) → sort (map (featOf x) l) ≡ map (featOf x) (sortS x l)
-  unfolding sort sortS every
+  map-sort : (l : List Span) → T (every (good x) l) → sortBy byName (map (featOf x) l) ≡ map (featOf x) (sortBy (nameOf x) l)
+  unfolding sortBy every
   map-sort [] t = refl
   map-sort (f ∷ l) t =
       let s = and-l (good x f) (every (good x) l) t in
       let r = and-r (good x f) (every (good x) l) t in
-      rw (map-sort l r) (map-insert f (sortS x l) s (rw (sortS-every (good x) x l) r))
+      rw (map-sort l r) (map-insert f (sortBy (nameOf x) l) s (rw (sort-every (nameOf x) (good x) l) r))
 
-  rising-map : (l : List Span) → T (every (good x) l) → rising (map (featOf x) l) ≡ risingS x l
-  unfolding rising risingS every
+  rising-map : (l : List Span) → T (every (good x) l) → risingBy byName (map (featOf x) l) ≡ risingBy (nameOf x) l
+  unfolding risingBy every
   rising-map [] t = refl
   rising-map (f ∷ []) t = refl
   rising-map (f ∷ h ∷ l) t =
@@ -116,7 +102,7 @@ module _ (x : List ℕ) where
       let a = name-of x f s in
       let b = name-of x h (and-l (good x h) (every (good x) l) r) in
       let q = ap (λ u. before u (featOf x h .name)) (sym a) ∙ ap (λ u. before (nameOf x f) u) (sym b) in
-      ap (λ c. c && rising (map (featOf x) (h ∷ l))) q ∙ ap (λ c. before (nameOf x f) (nameOf x h) && c) (rising-map (h ∷ l) r)
+      ap (λ c. c && risingBy byName (map (featOf x) (h ∷ l))) q ∙ ap (λ c. before (nameOf x f) (nameOf x h) && c) (rising-map (h ∷ l) r)
 
   join-chunks : (h : List ℕ) (l : List Span) → T (every (good x) l) → joinWith 58 (h ∷ map piece (map (featOf x) l)) ≡ h ++ chunks x l
   unfolding joinWith chunks every
@@ -179,13 +165,13 @@ module _ (x : List ℕ) (v : T (valid x)) where
 
   valid-named : T (every named (map feature (piecesOf x)))
   unfolding meaning meaningOf
-  valid-named = subst T (sort-every named (map feature (piecesOf x))) (valid-parts x v .all-named)
+  valid-named = subst T (sort-every byName named (map feature (piecesOf x))) (valid-parts x v .all-named)
 
   valid-few : length (piecesOf x) ≤ 8
   unfolding meaning meaningOf
   valid-few =
-      let a = leb→le (length (sort (map feature (piecesOf x)))) 8 (valid-parts x v .few) in
-      omega (arith, sort-length (map feature (piecesOf x)), length-map (piecesOf x) feature)
+      let a = leb→le (length (sortBy byName (map feature (piecesOf x)))) 8 (valid-parts x v .few) in
+      omega (arith, sort-length byName (map feature (piecesOf x)), length-map (piecesOf x) feature)
 
   pieces-ok : (ps : List (List ℕ)) → T (every signed ps) → T (every named (map feature ps)) → T (every pieceOk ps)
   unfolding every pieceOk
@@ -208,18 +194,18 @@ head-length x at dashes stop h k =
 
 -- ---- the features as they stand in the text
 
-insertS-length : (x : List ℕ) (f : Span) (l : List Span) → length (chunks x (insertS x f l)) ≡ length (chunkOf x f) + length (chunks x l)
-unfolding insertS chunks
+insertS-length : (x : List ℕ) (f : Span) (l : List Span) → length (chunks x (insertBy (nameOf x) f l)) ≡ length (chunkOf x f) + length (chunks x l)
+unfolding insertBy chunks
 insertS-length x f [] = length-append (chunkOf x f) []
 insertS-length x f (h ∷ l) =
-    cond-ind (λ r. length (chunks x r) ≡ length (chunkOf x f) + length (chunkOf x h ++ chunks x l)) (before (nameOf x f) (nameOf x h)) (f ∷ h ∷ l) (h ∷ insertS x f l)
+    cond-ind (λ r. length (chunks x r) ≡ length (chunkOf x f) + length (chunkOf x h ++ chunks x l)) (before (nameOf x f) (nameOf x h)) (f ∷ h ∷ l) (h ∷ insertBy (nameOf x) f l)
     (length-append (chunkOf x f) (chunkOf x h ++ chunks x l))
-    (omega (arith, length-append (chunkOf x h) (chunks x (insertS x f l)), insertS-length x f l, length-append (chunkOf x h) (chunks x l)))
+    (omega (arith, length-append (chunkOf x h) (chunks x (insertBy (nameOf x) f l)), insertS-length x f l, length-append (chunkOf x h) (chunks x l)))
 
-sortS-length : (x : List ℕ) (l : List Span) → length (chunks x (sortS x l)) ≡ length (chunks x l)
-unfolding sortS chunks
+sortS-length : (x : List ℕ) (l : List Span) → length (chunks x (sortBy (nameOf x) l)) ≡ length (chunks x l)
+unfolding sortBy chunks
 sortS-length x [] = refl
-sortS-length x (f ∷ l) = omega (arith, insertS-length x f (sortS x l), sortS-length x l, length-append (chunkOf x f) (chunks x l))
+sortS-length x (f ∷ l) = omega (arith, insertS-length x f (sortBy (nameOf x) l), sortS-length x l, length-append (chunkOf x f) (chunks x l))
 
 pieces-of : (x : List ℕ) (l : List Span) → T (every (good x) l) → map piece (map (featOf x) l) ≡ map (pieceAt x) l
 unfolding every
@@ -255,19 +241,19 @@ module _ (x : List ℕ) (at dashes stop : ℕ) (proc : Bool) (h : HeadAt x at da
     pieces-spans : piecesOf x ≡ map (pieceAt x) (take n t)
     pieces-spans = h .pieces-are ∙ pc .are
 
-    features-spans : meaning x .features ≡ map (featOf x) (sortS x (take n t))
+    features-spans : meaning x .features ≡ map (featOf x) (sortBy (nameOf x) (take n t))
     unfolding meaning meaningOf
-    features-spans = ap (λ ps. sort (map feature ps)) pieces-spans ∙ ap sort (features-of x (take n t)) ∙ map-sort x (take n t) (pc .all-good)
+    features-spans = ap (λ ps. sortBy byName (map feature ps)) pieces-spans ∙ ap (sortBy byName) (features-of x (take n t)) ∙ map-sort x (take n t) (pc .all-good)
 
-    sorted-good : T (every (good x) (sortS x (take n t)))
-    sorted-good = rw (sortS-every (good x) x (take n t)) (pc .all-good)
+    sorted-good : T (every (good x) (sortBy (nameOf x) (take n t)))
+    sorted-good = rw (sort-every (nameOf x) (good x) (take n t)) (pc .all-good)
 
-    pub text-is : canonicalOf (meaning x) ≡ headText x at dashes stop ++ chunks x (sortS x (take n t))
+    pub text-is : canonicalOf (meaning x) ≡ headText x at dashes stop ++ chunks x (sortBy (nameOf x) (take n t))
     unfolding canonicalOf headText
     text-is =
         ap (λ fs. joinWith 58 (joinWith 45 (sixFields (meaning x)) ∷ map piece fs)) features-spans
-        ∙ join-chunks x (joinWith 45 (sixFields (meaning x))) (sortS x (take n t)) sorted-good
-        ∙ ap (λ l. l ++ chunks x (sortS x (take n t))) (h .form)
+        ∙ join-chunks x (joinWith 45 (sixFields (meaning x))) (sortBy (nameOf x) (take n t)) sorted-good
+        ∙ ap (λ l. l ++ chunks x (sortBy (nameOf x) (take n t))) (h .form)
 
     -- the features, in the order of the text, are what follows the head
     chunks-text : chunks x (take n t) ≡ drop stop x
@@ -286,7 +272,7 @@ module _ (x : List ℕ) (at dashes stop : ℕ) (proc : Bool) (h : HeadAt x at da
     pub write-length : length (canonicalOf (meaning x)) ≡ length x + dashes
     write-length =
         let w = h .within in
-        omega (arith, ap length text-is ∙ length-append (headText x at dashes stop) (chunks x (sortS x (take n t))), head-length x at dashes stop (h .place) (h .within), sortS-length x (take n t), ap length chunks-text ∙ length-drop stop x)
+        omega (arith, ap length text-is ∙ length-append (headText x at dashes stop) (chunks x (sortBy (nameOf x) (take n t))), head-length x at dashes stop (h .place) (h .within), sortS-length x (take n t), ap length chunks-text ∙ length-drop stop x)
 
     pub length-refused : 256 < length x + dashes → valid x ≡ false
     length-refused k = is-false (valid x) (λ v. let a = valid-length x v in let b = write-length in omega arith)
@@ -294,12 +280,12 @@ module _ (x : List ℕ) (at dashes stop : ℕ) (proc : Bool) (h : HeadAt x at da
     count-is : length (meaning x .features) ≡ n
     unfolding meaning meaningOf
     count-is =
-        omega (arith, sort-length (map feature (piecesOf x)), length-map (piecesOf x) feature, ap length pieces-spans, length-map (take n t) (pieceAt x), length-take-le n t (omega (arith, pc .few, pc .size)))
+        omega (arith, sort-length byName (map feature (piecesOf x)), length-map (piecesOf x) feature, ap length pieces-spans, length-map (take n t) (pieceAt x), length-take-le n t (omega (arith, pc .few, pc .size)))
 
-    rising-is : rising (meaning x .features) ≡ risingS x (sortS x (take n t))
-    rising-is = ap rising features-spans ∙ rising-map x (sortS x (take n t)) sorted-good
+    rising-is : risingBy byName (meaning x .features) ≡ risingBy (nameOf x) (sortBy (nameOf x) (take n t))
+    rising-is = ap (risingBy byName) features-spans ∙ rising-map x (sortBy (nameOf x) (take n t)) sorted-good
 
-    pub order-refused : risingS x (sortS x (take n t)) ≡ false → valid x ≡ false
+    pub order-refused : risingBy (nameOf x) (sortBy (nameOf x) (take n t)) ≡ false → valid x ≡ false
     order-refused e = is-false (valid x) (λ v. not-t (rising-is ∙ e) (valid-parts x v .in-order))
 
     empty-length : {A : Type 0} (l : List A) → T (empty l) → length l ≡ 0
@@ -316,7 +302,7 @@ module _ (x : List ℕ) (at dashes stop : ℕ) (proc : Bool) (h : HeadAt x at da
           | inr u ↦ omega (arith, empty-length (meaning x .features) u, count-is)
         ])
 
-    module _ (short : length x + dashes ≤ 256) (pr : (ltb 0 n && not proc) ≡ false) (ris : risingS x (sortS x (take n t)) ≡ true) where
+    module _ (short : length x + dashes ≤ 256) (pr : (ltb 0 n && not proc) ≡ false) (ris : risingBy (nameOf x) (sortBy (nameOf x) (take n t)) ≡ true) where
       shaped-ok : T (shaped x)
       unfolding shaped
       shaped-ok =
@@ -349,8 +335,8 @@ module _ (x : List ℕ) (at dashes stop : ℕ) (proc : Bool) (h : HeadAt x at da
           let c : T (not (empty (m .vendor))) = h .vendor-some in
           let d : T (not (empty (m .system))) = h .system-some in
           let e : T (every (every fieldByte) (m .arch ∷ m .vendor ∷ m .system ∷ m .environment ∷ m .processor ∷ [])) = h .field-bytes in
-          let f : T (every named (m .features)) = rw features-spans (all-named x (sortS x (take n t)) sorted-good) in
-          let i : T (rising (m .features)) = of-true (rising (m .features)) (rising-is ∙ ris) in
+          let f : T (every named (m .features)) = rw features-spans (all-named x (sortBy (nameOf x) (take n t)) sorted-good) in
+          let i : T (risingBy byName (m .features)) = of-true (risingBy byName (m .features)) (rising-is ∙ ris) in
           let j : T (leb (length (m .features)) 8) = le→leb (length (m .features)) 8 (omega (arith, count-is, pc .few)) in
           let k : T (not (empty (m .processor)) || empty (m .features)) = with-proc-ok in
           let l : T (leb (length (canonicalOf m)) 256) = le→leb (length (canonicalOf m)) 256 (omega (arith, long-is)) in

@@ -9,12 +9,16 @@ use native.Mathlib.Omega.{arith}
 use lib.ListN.{length, getD, take, length-append}
 use lib.Seq.{take-at, getD-at}
 use lib.Dec.{T, eqb, leb, eqb→eq, le→leb, leb→le}
+use Rattle.wire.proofs.SortLaws.{sort-rising}
+use Rattle.wire.specs.Lists.{any, every}
+use Rattle.wire.specs.Order.{risingBy, sortBy}
 use Rattle.wire.specs.Bytes.{bytes, empty, same, before}
-use Rattle.entry_id.specs.Text.{every, any, splitOn, joinWith}
+use Rattle.entry_id.specs.Text.{splitOn, joinWith}
 use Rattle.wire.proofs.Bools.{and-l, and-r, and-t, or-t, or-l, is-true, is-false, of-true, cases}
 use Rattle.entry_id.proofs.TextLaws.{every-imp, every-append, split-join}
 use Rattle.wire.proofs.ByteLaws.{same-eq}
-use Rattle.entry_id.specs.Meaning.{Feature, Meaning, fieldsOf, piecesOf, fifthIsProcessor, feature, insert, sort, meaningOf, meaning, sign, piece, sixFields, canonicalOf, nameByte, fieldByte, kinds, signed, rising, named, shaped, proper, valid, canon}
+use Rattle.entry_id.specs.Code.Scan.{notColon}
+use Rattle.entry_id.specs.Meaning.{byName, Feature, Meaning, fieldsOf, piecesOf, fifthIsProcessor, feature, meaningOf, meaning, sign, piece, sixFields, canonicalOf, nameByte, fieldByte, kinds, signed, named, shaped, proper, valid, canon}
 
 -- ---- one feature
 
@@ -58,14 +62,6 @@ features-pieces : (fs : List Feature) → map feature (map piece fs) ≡ fs
 features-pieces [] = refl
 features-pieces (f ∷ fs) = let p = feature-piece f in let q = features-pieces fs in cc
 
-pub sort-rising : (fs : List Feature) → T (rising fs) → sort fs ≡ fs
-unfolding sort rising insert
-sort-rising [] t = refl
-sort-rising (f ∷ []) t = refl
-sort-rising (f ∷ g ∷ fs) t =
-    rw (sort-rising (g ∷ fs) (and-r (before (f .name) (g .name)) (rising (g ∷ fs)) t))
-    (rw (is-true (before (f .name) (g .name)) (and-l (before (f .name) (g .name)) (rising (g ∷ fs)) t)))
-
 -- ---- what the rules ask, part by part
 
 pub record Proper (m : Meaning) : Type 0 where
@@ -75,7 +71,7 @@ pub record Proper (m : Meaning) : Type 0 where
   pub system-some : T (not (empty (m .system)))
   pub field-bytes : T (every (every fieldByte) (m .arch ∷ m .vendor ∷ m .system ∷ m .environment ∷ m .processor ∷ []))
   pub all-named : T (every named (m .features))
-  pub in-order : T (rising (m .features))
+  pub in-order : T (risingBy byName (m .features))
   pub few : T (leb (length (m .features)) 8)
   pub with-proc : T (not (empty (m .processor)) || empty (m .features))
   pub fits : T (leb (length (canonicalOf m)) 256)
@@ -86,10 +82,7 @@ parts m t = search (and-l, and-r) depth 12
 
 -- ---- bytes
 
-notColon : ℕ → Bool
-notColon x = not (eqb x (code ":"))
-
-no-colon : T (notColon (code ":")) → ⊥
+pub no-colon : T (notColon (code ":")) → ⊥
 unfolding notColon
 no-colon t = t
 
@@ -105,7 +98,7 @@ name-field : (x : ℕ) → T (nameByte x) → T (fieldByte x)
 unfolding fieldByte
 name-field x t = search (or-l)
 
-any-holds : (q : List ℕ → Bool) (k : List ℕ) (l : List (List ℕ)) → T (any (same k) l) → T (every q l) → T (q k)
+pub any-holds : (q : List ℕ → Bool) (k : List ℕ) (l : List (List ℕ)) → T (any (same k) l) → T (every q l) → T (q k)
 unfolding any every
 any-holds q k [] s t = absurd s
 any-holds q k (x ∷ l) s t = elim (or-t (same k x) (any (same k) l) s) [
@@ -191,8 +184,8 @@ module _ (m : Meaning) (h : Proper m) where
   unfolding piecesOf
   pieces-back = rw cut
 
-  features-back : sort (map feature (map piece (m .features))) ≡ m .features
-  features-back = rw (features-pieces (m .features)) (sort-rising (m .features) (h .in-order))
+  features-back : sortBy byName (map feature (map piece (m .features))) ≡ m .features
+  features-back = rw (features-pieces (m .features)) (sort-rising byName (m .features) (h .in-order))
 
   pub meaning-write : meaning (canonicalOf m) ≡ m
   unfolding meaning meaningOf sixFields fifthIsProcessor

@@ -8,11 +8,11 @@ use mathlib.Core.List.{List, [], _∷_}
 use lib.ListN.{length}
 use lib.Dec.{T}
 use borrow.Author.Tests.{le-leb}
+use Rattle.wire.specs.Lists.{agree}
 use Rattle.wire.specs.Bytes.{empty, same}
 use Rattle.wire.proofs.ByteLaws.{same-sym}
 use Rattle.wire.proofs.Bools.{clash, cases, of-true, is-true, bool-ext}
 use Rattle.entry_id.specs.Meaning.{Meaning, meaning, sixFields, valid, canon}
-use Rattle.entry_id.specs.Text.{agree}
 use Rattle.entry_id.specs.Compare.{compatible, sameMeaning, mixed, sameTarget, sameNames}
 use Rattle.entry_id.specs.Canonical.{compatibleText, sameText, mixedText, canonicalIn}
 use Rattle.entry_id.specs.IdRules.{Lawful}

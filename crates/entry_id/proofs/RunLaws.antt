@@ -9,7 +9,7 @@ use lib.ListN.{length, getD, take, drop, length-take, length-drop, take-append-d
 use lib.Seq.{take-suc, drop-cons, drop-drop, getD-drop, length-take-le, take-add}
 use lib.Dec.{T, ltb}
 use borrow.Author.Tests.{ltb-true, ltb-false}
-use Rattle.entry_id.specs.Text.{every}
+use Rattle.wire.specs.Lists.{every}
 use Rattle.wire.specs.Bytes.{empty, bytes}
 use Rattle.entry_id.specs.Meaning.{namesProcessor}
 use Rattle.wire.proofs.Bools.{and-t, of-true, cases}

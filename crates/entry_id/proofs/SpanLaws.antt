@@ -10,7 +10,8 @@ use lib.ListN.{length, getD, take, drop, set, length-append, length-map}
 use lib.Seq.{take-suc-set, length-take-le}
 use lib.Dec.{T, eqb, ltb, leb, eqb→eq, ltb→lt, lt→ltb, leb→le}
 use borrow.Author.Tests.{eq-eqb, lt-ltb, le-ltb}
-use Rattle.entry_id.specs.Text.{every, splitOn}
+use Rattle.wire.specs.Lists.{every}
+use Rattle.entry_id.specs.Text.{splitOn}
 use Rattle.wire.proofs.Bools.{and-l, and-r, and-t, is-true, is-false, of-true}
 use Rattle.entry_id.proofs.TextLaws.{every-append, split-some}
 use Rattle.entry_id.specs.Meaning.{piece, sign, nameByte}

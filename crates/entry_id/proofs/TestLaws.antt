@@ -3,26 +3,23 @@ use Prim.Native.Nat.{ℕ, suc, _+_, _-_, _≤_, _<_}
 use mathlib.Core.Path.{_≡_, refl, sym, ap, _∙_, subst}
 use mathlib.Core.Logic.{inl, inr}
 use mathlib.Core.Bool.{Bool, true, false, not}
-use mathlib.Core.List.{List, [], _∷_, _++_}
+use mathlib.Core.List.{append-nil, List, [], _∷_, _++_}
 use lib.ListN.{length, getD, drop, drop-of-length-le}
 use lib.Seq.{drop-cons}
 use lib.Dec.{T, ltb, leb}
 use borrow.Author.Tests.{eqb-true, eqb-false, eq-eqb, ne-eqb, lt-ltb, ltb-true, ltb-false, leb-true, leb-false, not-false}
-use Rattle.entry_id.specs.Text.{every, any, splitOn, onFirst, agree}
+use Rattle.wire.specs.Lists.{agree, any, every}
+use Rattle.entry_id.specs.Text.{splitOn, onFirst}
 use Rattle.wire.specs.Bytes.{same}
 use Rattle.entry_id.proofs.TextLaws.{split-last, split-skip, split-some}
 use Rattle.wire.proofs.Bools.{cases}
 use Rattle.entry_id.specs.Meaning.{piecesOf}
+use Rattle.entry_id.proofs.ReadBack.{no-colon}
 use Rattle.entry_id.specs.Code.Scan.{part, Run, piecesAt, endsAt, notColon, MeetIs}
 use Rattle.entry_id.specs.Canonical.{headOf, within, unsigned, samePieceNames, compatibleText, mixedText}
 use Rattle.entry_id.proofs.RunLaws.{part-drop}
-use Rattle.entry_id.proofs.PieceLaws.{append-nil}
 use Rattle.entry_id.proofs.SpanLaws.{pieces-here, pieces-none}
 use native.Mathlib.Numerals.{add-one}
-
-no-colon : T (notColon 58) → ⊥
-unfolding notColon
-no-colon t = t
 
 module _ (x : List ℕ) (a r : ℕ) (h : Run notColon x a r) where
   -- the text from a on starts with the piece up to r

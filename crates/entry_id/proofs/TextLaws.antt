@@ -4,8 +4,9 @@ use mathlib.Core.Path.{_≡_, refl, sym, ap, _∙_, subst}
 use mathlib.Core.Bool.{Bool, true, false}
 use mathlib.Core.List.{List, [], _∷_, _++_}
 use lib.Dec.{T, eqb, eqb→eq, eqb-refl}
+use Rattle.wire.specs.Lists.{any, every}
 use Rattle.wire.proofs.Bools.{and-l, and-r, and-t, is-true, is-false, cond-ind, cond-case}
-use Rattle.entry_id.specs.Text.{every, any, onFirst, splitOn, joinWith}
+use Rattle.entry_id.specs.Text.{onFirst, splitOn, joinWith}
 
 -- ---- every, any
 

@@ -2,20 +2,22 @@
 use mathlib.Core.Path.{_≡_}
 use mathlib.Core.List.{List, map}
 use Prim.Native.Nat.{ℕ}
+use Rattle.wire.proofs.SortLaws.{distinct-rising, rising-distinct}
+use Rattle.wire.specs.Order.{distinctBy, risingBy, sortBy}
 use Rattle.wire.proofs.Bools.{bool-ext}
-use Rattle.entry_id.specs.Meaning.{feature, piecesOf, meaning, meaningOf, rising, sort}
+use Rattle.entry_id.specs.Meaning.{byName, feature, piecesOf, meaning, meaningOf}
 use Rattle.entry_id.specs.Canonical.{sameText}
-use Rattle.entry_id.specs.Theorems.{EntryIds, distinct}
+use Rattle.entry_id.specs.Theorems.{EntryIds}
 use Rattle.entry_id.proofs.ReadBack.{canon-meaning, same-canon, canon-valid, canon-size, canon-again, canon-refused}
-use Rattle.entry_id.proofs.FeatureLaws.{features-stated, distinct-rising, rising-distinct, sameMeaning-eq, eq-sameMeaning, one-entry}
+use Rattle.entry_id.proofs.FeatureLaws.{features-stated, sameMeaning-eq, eq-sameMeaning, one-entry}
 use Rattle.entry_id.proofs.CompareLaws.{names-sets}
 use Rattle.entry_id.proofs.CanonicalLaws.{compatible-canonical, mixed-canonical, same-canonical}
 
-stated-once : (x : List ℕ) → rising (meaning x .features) ≡ distinct (map feature (piecesOf x))
+stated-once : (x : List ℕ) → risingBy byName (meaning x .features) ≡ distinctBy byName (map feature (piecesOf x))
 unfolding meaning meaningOf
 stated-once x =
     let l = map feature (piecesOf x) in
-    bool-ext (rising (sort l)) (distinct l) (rising-distinct l) (distinct-rising l)
+    bool-ext (risingBy byName (sortBy byName l)) (distinctBy byName l) (rising-distinct byName l) (distinct-rising byName l)
 
 pub entryIds : EntryIds
 unfolding sameText

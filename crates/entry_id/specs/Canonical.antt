@@ -6,8 +6,9 @@ use mathlib.Core.Bool.{Bool, not, _&&_, cond}
 use mathlib.Core.List.{List, []}
 use lib.ListN.{length, getD, take}
 use lib.Dec.{leb}
+use Rattle.wire.specs.Lists.{agree, any, every}
 use Rattle.wire.specs.Bytes.{same}
-use Rattle.entry_id.specs.Text.{every, any, agree, splitOn}
+use Rattle.entry_id.specs.Text.{splitOn}
 use Rattle.entry_id.specs.Meaning.{piecesOf, canon}
 
 -- the canonical form where it fits `room` bytes, else nothing; room for 256 bytes is enough for every ID

@@ -1,8 +1,8 @@
 -- The three tests on meanings: compatible, the same meaning, mixed. Definitions only.
 use mathlib.Core.Bool.{Bool, not, _&&_, Bool·beq}
 use mathlib.Core.List.{List}
+use Rattle.wire.specs.Lists.{agree, any, every}
 use Rattle.wire.specs.Bytes.{same}
-use Rattle.entry_id.specs.Text.{every, any, agree}
 use Rattle.entry_id.specs.Meaning.{Feature, Meaning, sixFields}
 
 -- "kind, triple and processor are the same (both may lack a processor)"

@@ -6,13 +6,19 @@ use mathlib.Core.Bool.{Bool, true, false, not, _&&_, _||_, cond}
 use mathlib.Core.List.{List, [], _∷_, _++_, map}
 use lib.ListN.{length, getD, take, drop}
 use lib.Dec.{eqb, leb}
+use Rattle.wire.specs.Lists.{any, every}
 use Rattle.wire.specs.Bytes.{bytes, empty, same, before}
-use Rattle.entry_id.specs.Text.{every, any, splitOn, joinWith}
+use Rattle.wire.specs.Order.{sortBy, risingBy}
+use Rattle.entry_id.specs.Text.{splitOn, joinWith}
 
 -- a stated feature: its name, and its sign, `+` (on) or `-` (off)
 pub record Feature : Type 0 where
   pub name : List ℕ
   pub on : Bool
+
+-- a feature's name, as the key that features are ordered by
+abbrev pub byName : Feature → List ℕ
+byName f = f .name
 
 -- "The meaning is kind, the four triple parts, processor, and the set of stated features with their signs."
 -- The features stand in byte order of their names, so that equal sets are equal lists. No environment and no processor are empty.
@@ -47,17 +53,9 @@ fifthIsProcessor fs = eqb (length fs) 5 && namesProcessor (getD fs 4 [])
 unfoldable pub feature : List ℕ → Feature
 feature p = record { name = take (length p - 1) p; on = eqb (getD p (length p - 1) 0) (code "+") }
 
--- "the features in byte order of their names, a shorter name before a longer one that begins with it"
-unfoldable pub insert : Feature → List Feature → List Feature
-insert f [] = f ∷ []
-insert f (g ∷ gs) = cond (before (f .name) (g .name)) (f ∷ g ∷ gs) (g ∷ insert f gs)
-
-unfoldable pub sort : List Feature → List Feature
-sort [] = []
-sort (f ∷ fs) = insert f (sort fs)
-
 -- the meaning of a text with these fields and pieces. "Four fields: kind, arch, vendor, system. Five fields: .. otherwise [the fifth] is the
--- environment and there is no processor. Six fields: .., environment, processor; an empty sixth means no processor."
+-- environment and there is no processor. Six fields: .., environment, processor; an empty sixth means no processor." The features stand "in byte
+-- order of their names, a shorter name before a longer one that begins with it".
 unfoldable pub meaningOf : List (List ℕ) → List (List ℕ) → Meaning
 meaningOf fs ps = record {
   kind = getD fs 0 [];
@@ -66,7 +64,7 @@ meaningOf fs ps = record {
   system = getD fs 3 [];
   environment = cond (fifthIsProcessor fs) [] (getD fs 4 []);
   processor = cond (fifthIsProcessor fs) (getD fs 4 []) (getD fs 5 []);
-  features = sort (map feature ps);
+  features = sortBy byName (map feature ps);
 }
 
 unfoldable pub meaning : List ℕ → Meaning
@@ -112,12 +110,6 @@ signed p = let s = getD p (length p - 1) 0 in eqb s (code "+") || eqb s (code "-
 unfoldable pub named : Feature → Bool
 named f = not (empty (f .name)) && every nameByte (f .name)
 
--- "A name stated twice is refused": among features in order each name stands before the next (the theorem `stated-once` has it on the text)
-unfoldable pub rising : List Feature → Bool
-rising [] = true
-rising (f ∷ []) = true
-rising (f ∷ g ∷ gs) = before (f .name) (g .name) && rising (g ∷ gs)
-
 -- what the rules ask of the text: "Entry ID: 1 to 256 bytes"; four to six fields, "Any other number is refused"; each piece has a sign
 unfoldable pub shaped : List ℕ → Bool
 shaped x =
@@ -125,14 +117,14 @@ shaped x =
     && leb 4 (length (fieldsOf x)) && leb (length (fieldsOf x)) 6
     && every signed (piecesOf x)
 
--- what the rules ask of the meaning: the kind; "Arch, vendor and system are not empty"; the bytes of fields and of names; no name twice;
--- "Features in an ID: 8"; "refused .. so is a feature without a processor"; "its canonical form at most 256" bytes
+-- what the rules ask of the meaning: the kind; "Arch, vendor and system are not empty"; the bytes of fields and of names; "A name stated twice
+-- is refused": in order, each name stands before the next (the theorem `stated-once` has it on the text); "Features in an ID: 8"; "refused .. so is a feature without a processor"; "its canonical form at most 256" bytes
 unfoldable pub proper : Meaning → Bool
 proper m =
     any (same (m .kind)) kinds
     && not (empty (m .arch)) && not (empty (m .vendor)) && not (empty (m .system))
     && every (every fieldByte) (m .arch ∷ m .vendor ∷ m .system ∷ m .environment ∷ m .processor ∷ [])
-    && every named (m .features) && rising (m .features) && leb (length (m .features)) 8
+    && every named (m .features) && risingBy byName (m .features) && leb (length (m .features)) 8
     && (not (empty (m .processor)) || empty (m .features))
     && leb (length (canonicalOf m)) 256
 

@@ -2,24 +2,20 @@
 use Prim.Native.Nat.{ℕ, _≤_}
 use mathlib.Core.Path.{_≡_}
 use mathlib.Core.Logic.{_↔_}
-use mathlib.Core.Bool.{Bool, true, false, not, _&&_}
-use mathlib.Core.List.{List, [], _∷_, map, List·Memᴰ}
+use mathlib.Core.Bool.{Bool, false, not, _&&_}
+use mathlib.Core.List.{List, [], map, List·Memᴰ}
 use lib.ListN.{length}
 use lib.Dec.{T}
+use Rattle.wire.specs.Lists.{any, every}
 use Rattle.wire.specs.Bytes.{same}
-use Rattle.entry_id.specs.Text.{every, any}
-use Rattle.entry_id.specs.Meaning.{Feature, Meaning, piecesOf, feature, meaning, rising, valid, canon}
+use Rattle.wire.specs.Order.{risingBy, distinctBy}
+use Rattle.entry_id.specs.Meaning.{byName, Feature, Meaning, piecesOf, feature, meaning, valid, canon}
 use Rattle.entry_id.specs.Compare.{compatible, sameMeaning, mixed, sameNames}
 use Rattle.entry_id.specs.Canonical.{compatibleText, sameText, mixedText}
 
 -- a feature of this name is among them
 unfoldable pub nameIn : Feature → List Feature → Bool
 nameIn f l = any (λ g. same (f .name) (g .name)) l
-
--- no two of the features have one name
-unfoldable pub distinct : List Feature → Bool
-distinct [] = true
-distinct (f ∷ l) = not (nameIn f l) && distinct l
 
 pub record EntryIds : Type 0 where
   -- reading the canonical form gives the meaning back
@@ -33,11 +29,11 @@ pub record EntryIds : Type 0 where
   pub form-none : (x : List ℕ) → valid x ≡ false → canon x ≡ []
   -- the meaning's features are exactly those that the text states, and of an ID each name once
   pub features-stated : (x : List ℕ) (f : Feature) → List·Memᴰ f (meaning x .features) ↔ List·Memᴰ f (map feature (piecesOf x))
-  pub stated-once : (x : List ℕ) → rising (meaning x .features) ≡ distinct (map feature (piecesOf x))
+  pub stated-once : (x : List ℕ) → risingBy byName (meaning x .features) ≡ distinctBy byName (map feature (piecesOf x))
   -- two IDs have the same meaning by the test exactly when their meanings are equal
   pub same-is-equal : (a b : Meaning) → T (sameMeaning a b) ↔ (a ≡ b)
   -- of features in order: the same names one after the other exactly when each has the names of the other
-  pub same-names : (a b : List Feature) → T (rising a) → T (rising b) → sameNames a b ≡ (every (λ f. nameIn f b) a && every (λ g. nameIn g a) b)
+  pub same-names : (a b : List Feature) → T (risingBy byName a) → T (risingBy byName b) → sameNames a b ≡ (every (λ f. nameIn f b) a && every (λ g. nameIn g a) b)
   -- of two entries that are not mixed and have different meanings, no device name is compatible with both
   pub one-compatible : (x y d : List ℕ) → T (valid d) → T (compatible (meaning x) (meaning d)) → T (compatible (meaning y) (meaning d))
       → T (not (mixed (meaning x) (meaning y))) → meaning x ≡ meaning y

@@ -5,7 +5,8 @@ ghost use mathlib.Core.Bool.{true, false};
 ghost use mathlib.Core.List.{[], _++_};
 ghost use lib.ListN.{length, getD, take, drop};
 ghost use Rattle.entry_id.specs.Code.Scan.{endsAt};
-ghost use Rattle.entry_id.specs.Code.Spans.{PieceIs, PiecesIs, nameOf, chunkOf, placed, sortS, risingS};
+ghost use Rattle.entry_id.specs.Code.Spans.{PieceIs, PiecesIs, nameOf, chunkOf, placed};
+ghost use Rattle.wire.specs.Order.{sortBy, risingBy};
 use crate::scan::byte;
 use crate::scan::ends;
 use crate::scan::name_end;
@@ -119,7 +120,7 @@ fn place(id: &[u8], t: [Span; 8], k: usize, n: usize) -> [Span; 8]
 // The first n features, in order of their names.
 pub(crate) fn sorted(id: &[u8], t: [Span; 8], n: usize) -> [Span; 8]
     requires { ⌜ n ≤ 8 ⌝ }
-    ensures { λ r. ⌜ (length r ≡ 8) × (take n r ≡ sortS (now (id .entry)) (take n t)) ⌝ }
+    ensures { λ r. ⌜ (length r ≡ 8) × (take n r ≡ sortBy (nameOf (now (id .entry))) (take n t)) ⌝ }
 {
     let mut u = t;
     let mut k = n;
@@ -134,7 +135,7 @@ pub(crate) fn sorted(id: &[u8], t: [Span; 8], n: usize) -> [Span; 8]
 // Whether each of the first n names stands before the next.
 pub(crate) fn in_order(id: &[u8], t: [Span; 8], n: usize) -> bool
     requires { ⌜ n ≤ 8 ⌝ }
-    ensures { λ r. ⌜ r ≡ risingS (now (id .entry)) (take n t) ⌝ }
+    ensures { λ r. ⌜ r ≡ risingBy (nameOf (now (id .entry))) (take n t) ⌝ }
 {
     let mut i = 0;
     while i + 1 < n {

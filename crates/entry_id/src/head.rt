@@ -4,7 +4,7 @@ ghost use Prim.Native.Nat.{ℕ, _+_, _-_, _<_, _≤_};
 ghost use mathlib.Core.Bool.{true, false};
 ghost use mathlib.Core.List.{[], _++_};
 ghost use lib.ListN.{length, getD, take, drop};
-ghost use Rattle.entry_id.specs.Text.{any};
+ghost use Rattle.wire.specs.Lists.{any};
 ghost use Rattle.wire.specs.Bytes.{same};
 ghost use Rattle.entry_id.specs.Meaning.{kinds, namesProcessor};
 ghost use Rattle.entry_id.specs.Code.Scan.{NextIs, TripleIs, HeadIs};

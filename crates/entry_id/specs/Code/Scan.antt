@@ -5,7 +5,8 @@ use mathlib.Core.Bool.{Bool, true, false, not, _&&_, cond}
 use mathlib.Core.List.{List, [], _∷_, _++_}
 use lib.ListN.{length, getD, take, drop, replicate}
 use lib.Dec.{T, ltb, eqb}
-use Rattle.entry_id.specs.Text.{every, any, splitOn, joinWith}
+use Rattle.wire.specs.Lists.{any, every}
+use Rattle.entry_id.specs.Text.{splitOn, joinWith}
 use Rattle.wire.specs.Bytes.{empty, same}
 use Rattle.entry_id.specs.Meaning.{fieldsOf, piecesOf, meaning, sixFields, nameByte, fieldByte, kinds, valid}
 use Rattle.entry_id.specs.declared.scan.Class.{Class}

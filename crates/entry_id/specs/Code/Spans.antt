@@ -5,8 +5,9 @@ use mathlib.Core.Bool.{Bool, true, false, _&&_, _||_, cond}
 use mathlib.Core.List.{List, [], _∷_, _++_, map}
 use lib.ListN.{length, getD, take, drop, replicate}
 use lib.Dec.{T, ltb, eqb, leb}
-use Rattle.entry_id.specs.Text.{every, splitOn}
-use Rattle.wire.specs.Bytes.{before}
+use Rattle.wire.specs.Lists.{every}
+use Rattle.entry_id.specs.Text.{splitOn}
+use Rattle.wire.specs.Order.{insertBy}
 use Rattle.entry_id.specs.Meaning.{feature, nameByte, signed, named, valid, canonicalOf, meaning}
 use Rattle.entry_id.specs.Code.Scan.{part, endsAt, piecesAt}
 use Rattle.entry_id.specs.declared.features.Span.{Span}
@@ -59,24 +60,9 @@ pub record PiecesIs (x : List ℕ) (stop : ℕ) (ok : Bool) (n : ℕ) (t : List 
   pub found : ok ≡ true → Pieces x stop n t
   pub refused : ok ≡ false → (every pieceOk (piecesAt x stop) && leb (length (piecesAt x stop)) 8) ≡ false
 
--- ---- order
-
-unfoldable pub insertS : List ℕ → Span → List Span → List Span
-insertS x f [] = f ∷ []
-insertS x f (g ∷ gs) = cond (before (nameOf x f) (nameOf x g)) (f ∷ g ∷ gs) (g ∷ insertS x f gs)
-
-unfoldable pub sortS : List ℕ → List Span → List Span
-sortS x [] = []
-sortS x (f ∷ fs) = insertS x f (sortS x fs)
-
-unfoldable pub risingS : List ℕ → List Span → Bool
-risingS x [] = true
-risingS x (f ∷ []) = true
-risingS x (f ∷ g ∷ gs) = before (nameOf x f) (nameOf x g) && risingS x (g ∷ gs)
-
 -- the span at k put in its place among those after it
 unfoldable pub placed : List ℕ → List Span → ℕ → List Span
-placed x t k = take k t ++ insertS x (getD t k noSpan) (drop (suc k) t)
+placed x t k = take k t ++ insertBy (nameOf x) (getD t k noSpan) (drop (suc k) t)
 
 -- ---- the canonical form in parts of the text
 

@@ -4,7 +4,7 @@ use mathlib.Core.Path.{_≡_, refl, sym, _∙_}
 use native.Mathlib.Numerals.{add-one}
 use borrow.Author.Tests.{not-true, not-false}
 use lib.ListN.{length}
-use Rattle.entry_id.specs.Text.{any}
+use Rattle.wire.specs.Lists.{any}
 use Rattle.wire.specs.Bytes.{same}
 use Rattle.entry_id.specs.Code.Scan.{part, piecesAt, Run, notColon}
 use Rattle.entry_id.specs.Canonical.{within}

@@ -3,7 +3,7 @@ use Prim.Native.Nat.{suc, _+_, _-_}
 use mathlib.Core.Path.{_≡_, refl, sym, _∙_}
 use native.Mathlib.Numerals.{add-one}
 use lib.ListN.{length}
-use Rattle.entry_id.specs.Text.{any}
+use Rattle.wire.specs.Lists.{any}
 use Rattle.wire.specs.Bytes.{same}
 use Rattle.entry_id.specs.Code.Scan.{part, piecesAt, Run, notColon}
 use Rattle.entry_id.proofs.TestLaws.{any-yes, any-no, any-end}

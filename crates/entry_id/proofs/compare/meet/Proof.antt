@@ -4,7 +4,7 @@ use mathlib.Core.Path.{_≡_, refl, sym, _∙_}
 use borrow.Author.Tests.{not-true, not-false}
 use lib.ListN.{length, drop}
 use lib.Dec.{T}
-use Rattle.entry_id.specs.Text.{every}
+use Rattle.wire.specs.Lists.{every}
 use Rattle.wire.specs.Bytes.{same}
 use Rattle.entry_id.specs.Code.Scan.{part, notColon}
 use Rattle.entry_id.specs.Canonical.{headOf}

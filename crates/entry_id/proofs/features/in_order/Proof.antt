@@ -3,7 +3,8 @@ use Prim.Native.Nat.{_-_, _≤_}
 use mathlib.Core.Path.{_≡_, refl, sym, _∙_}
 use borrow.Author.Tests.{not-true, not-false}
 use lib.ListN.{length, take, drop}
-use Rattle.entry_id.specs.Code.Spans.{risingS}
+use Rattle.entry_id.specs.Code.Spans.{nameOf}
+use Rattle.wire.specs.Order.{risingBy}
 use Rattle.entry_id.proofs.OrderLaws.{order-step, order-stop, order-end}
 use native.Mathlib.Omega.{arith}
 use borrow.Author.Needs.{needs}
@@ -11,7 +12,7 @@ use Rattle.entry_id.proofs.features.in_order.Statement.{statement}
 use Rattle.entry_id.proofs.features.in_order.Tie as tie
 
 abbrev Inv-loop : tie.InvT-loop
-Inv-loop id n t i₀ i = (i ≤ n) × ((n ≤ 8) × ((length t ≡ 8) × (risingS id (take n t) ≡ risingS id (drop i (take n t)))))
+Inv-loop id n t i₀ i = (i ≤ n) × ((n ≤ 8) × ((length t ≡ 8) × (risingBy (nameOf id) (take n t) ≡ risingBy (nameOf id) (drop i (take n t)))))
 
 abbrev μ-loop : tie.MeasureT-loop
 μ-loop id n t i₀ i = n - i

@@ -3,15 +3,14 @@ use Prim.Native.Nat.{suc, _+_, _-_, _≤_, _<_}
 use mathlib.Core.Path.{_≡_, refl, sym, _∙_, subst}
 use mathlib.Core.Logic.{inl, inr}
 use mathlib.Core.Bool.{true}
-use mathlib.Core.List.{_++_, map}
+use mathlib.Core.List.{append-nil, _++_, map}
 use native.Mathlib.Numerals.{add-one}
 use lib.ListN.{length, take, length-set}
 use lib.Dec.{T, eqb, leb}
-use Rattle.entry_id.specs.Text.{every}
+use Rattle.wire.specs.Lists.{every}
 use Rattle.entry_id.specs.Code.Scan.{endsAt, piecesAt}
 use Rattle.entry_id.specs.Code.Spans.{pieceOk, pieceAt, good, Piece}
 use Rattle.entry_id.proofs.SpanLaws.{pieces-bad, pieces-many, pieces-more, good-more, pieces-none, neither, either, both-false}
-use Rattle.entry_id.proofs.PieceLaws.{append-nil}
 use borrow.Author.Tests.{eqb-true, eqb-false}
 use native.Mathlib.Omega.{arith}
 use borrow.Author.Needs.{needs}

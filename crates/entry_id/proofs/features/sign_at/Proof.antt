@@ -5,7 +5,8 @@ use native.Mathlib.Numerals.{add-one}
 use lib.ListN.{drop}
 use lib.Dec.{T}
 use borrow.Author.Tests.{not-true, not-false}
-use Rattle.entry_id.specs.Text.{every, splitOn}
+use Rattle.wire.specs.Lists.{every}
+use Rattle.entry_id.specs.Text.{splitOn}
 use Rattle.wire.proofs.Bools.{is-false, of-true}
 use Rattle.entry_id.specs.Code.Scan.{endsAt}
 use Rattle.entry_id.specs.Code.Spans.{pieceOk, signByte}

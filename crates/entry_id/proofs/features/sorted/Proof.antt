@@ -3,7 +3,8 @@ use Prim.Native.Nat.{suc, _+_, _-_, _≤_}
 use mathlib.Core.Path.{_≡_, _∙_}
 use mathlib.Core.List.{_++_}
 use lib.ListN.{length, take, drop}
-use Rattle.entry_id.specs.Code.Spans.{sortS}
+use Rattle.entry_id.specs.Code.Spans.{nameOf}
+use Rattle.wire.specs.Order.{sortBy}
 use Rattle.entry_id.proofs.OrderLaws.{sort-step, sort-none}
 use lib.Seq.{length-take-le}
 use native.Mathlib.Omega.{arith}
@@ -12,7 +13,7 @@ use Rattle.entry_id.proofs.features.sorted.Statement.{statement}
 use Rattle.entry_id.proofs.features.sorted.Tie as tie
 
 abbrev Inv-loop : tie.InvT-loop
-Inv-loop id n u₀ k₀ u k = (k ≤ n) × ((n ≤ 8) × ((length u ≡ 8) × (take n u ≡ take k (take n u₀) ++ sortS id (drop k (take n u₀)))))
+Inv-loop id n u₀ k₀ u k = (k ≤ n) × ((n ≤ 8) × ((length u ≡ 8) × (take n u ≡ take k (take n u₀) ++ sortBy (nameOf id) (drop k (take n u₀)))))
 
 abbrev μ-loop : tie.MeasureT-loop
 μ-loop id n u₀ k₀ u k = k

@@ -1,7 +1,7 @@
 -- `entry_id::is_kind` meets its contract. Assumes nothing.
 use denote.Ref.{now}
 use mathlib.Core.Bool.{or-false}
-use Rattle.entry_id.specs.Text.{any}
+use Rattle.wire.specs.Lists.{any}
 use Rattle.wire.specs.Bytes.{same, bytes}
 use Rattle.entry_id.specs.Meaning.{kinds}
 use borrow.Author.Needs.{needs}

@@ -4,7 +4,8 @@ use mathlib.Core.Path.{sym, _∙_, ap, subst}
 use lib.ListN.{length}
 use lib.Dec.{T}
 use borrow.Author.Tests.{not-true, not-false}
-use Rattle.entry_id.specs.Code.Spans.{risingS}
+use Rattle.entry_id.specs.Code.Spans.{nameOf}
+use Rattle.wire.specs.Order.{risingBy}
 use Rattle.entry_id.proofs.PlanLaws.{plan-no, long-refused, pieces-refused, length-refused, order-refused, proc-refused, text-is, plan-valid, long-is}
 use native.Mathlib.Omega.{arith}
 use borrow.Author.Needs.{needs}
@@ -103,7 +104,7 @@ returns-6 c =
     let p = c .before .before .before .before .before .before .before .before .before .read-pieces .result in
     let pc = c .before .before .before .before .before .before .before .before .before .read-pieces .ensures .found (not-false _ (c .before .before .before .before .before .before .before .if3 .left)) in
     let so = c .before .before .before .sorted .ensures .1 in
-    let ri = c .before .before .in-order .ensures ∙ ap (risingS x) so in
+    let ri = c .before .before .in-order .ensures ∙ ap (risingBy (nameOf x)) so in
     plan-no (order-refused x (h .at) (h .dashes) (h .stop) (h .proc) hd (p .n) (p .spans) pc (sym ri ∙ not-true _ (c .before .if6 .taken))) (c .no-plan6 .ensures)
 
 returns-7 : tie.Need-returns-7
@@ -114,7 +115,7 @@ returns-7 c =
     let p = c .before .before .before .before .before .before .before .before .read-pieces .result in
     let pc = c .before .before .before .before .before .before .before .before .read-pieces .ensures .found (not-false _ (c .before .before .before .before .before .before .if3 .left)) in
     let so = c .before .before .sorted .ensures .1 in
-    let ri = c .before .in-order .ensures ∙ ap (risingS x) so in
+    let ri = c .before .in-order .ensures ∙ ap (risingBy (nameOf x)) so in
     let sh : length x + h .dashes ≤ 256 = omega (arith, hd .few, c .before .before .before .before .if5 .left) in
     let rs = sym ri ∙ not-false _ (c .if6 .left) in
     record {

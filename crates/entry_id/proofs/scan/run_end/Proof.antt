@@ -4,7 +4,7 @@ use lib.ListN.{length}
 use lib.Dec.{T}
 use borrow.Author.Tests.{not-true, not-false}
 use mathlib.Core.Path.{sym, _∙_}
-use Rattle.entry_id.specs.Text.{every}
+use Rattle.wire.specs.Lists.{every}
 use Rattle.entry_id.specs.Code.Scan.{part, inClass}
 use Rattle.entry_id.proofs.RunLaws.{run-none, run-more}
 use native.Mathlib.Omega.{arith}
