@@ -1,9 +1,8 @@
 // The features of an ID as spans of its text, and their order.
 ghost use mathlib.Core.Path.{_≡_};
-ghost use Prim.Native.Nat.{ℕ, _+_, _-_, _<_, _≤_};
+ghost use Prim.Native.Nat.{_+_, _<_, _≤_};
 ghost use mathlib.Core.Bool.{true, false};
-ghost use mathlib.Core.List.{[], _++_};
-ghost use lib.ListN.{length, getD, take, drop};
+ghost use lib.ListN.{length, take};
 ghost use Rattle.entry_id.specs.Code.Scan.{endsAt};
 ghost use Rattle.entry_id.specs.Code.Spans.{PieceIs, PiecesIs, nameOf, chunkOf, placed};
 ghost use Rattle.wire.specs.Order.{sortBy, risingBy};

@@ -1,9 +1,7 @@
 // The head of an ID: kind, triple, environment and processor, before the first ':'.
 ghost use mathlib.Core.Path.{_≡_};
-ghost use Prim.Native.Nat.{ℕ, _+_, _-_, _<_, _≤_};
+ghost use Prim.Native.Nat.{_+_, _<_};
 ghost use mathlib.Core.Bool.{true, false};
-ghost use mathlib.Core.List.{[], _++_};
-ghost use lib.ListN.{length, getD, take, drop};
 ghost use Rattle.wire.specs.Lists.{any};
 ghost use Rattle.wire.specs.Bytes.{same};
 ghost use Rattle.entry_id.specs.Meaning.{kinds, namesProcessor};

@@ -6,10 +6,10 @@ mod plan;
 mod scan;
 
 ghost use mathlib.Core.Path.{_≡_};
-ghost use Prim.Native.Nat.{ℕ, _+_, _-_, _<_, _≤_};
-ghost use mathlib.Core.Bool.{true, false};
-ghost use mathlib.Core.List.{[], _++_};
-ghost use lib.ListN.{length, getD, take, drop};
+ghost use Prim.Native.Nat.{_+_, _-_, _<_};
+ghost use mathlib.Core.Bool.{false};
+ghost use mathlib.Core.List.{_++_};
+ghost use lib.ListN.{length, drop};
 ghost use Rattle.entry_id.specs.Canonical.{canonicalIn, compatibleText, sameText, mixedText};
 
 // The canonical form of id at the start of out, and its length; 0 where id breaks the rules or the form does not fit, and out as it was.

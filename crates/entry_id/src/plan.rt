@@ -1,9 +1,8 @@
 // An ID read whole, and its canonical form written from the text's own parts.
 ghost use mathlib.Core.Path.{_≡_};
-ghost use Prim.Native.Nat.{ℕ, _+_, _-_, _<_, _≤_};
+ghost use Prim.Native.Nat.{_+_, _-_, _<_, _≤_};
 ghost use mathlib.Core.Bool.{true, false};
-ghost use mathlib.Core.List.{[], _++_};
-ghost use lib.ListN.{length, getD, take, drop};
+ghost use lib.ListN.{length, take};
 ghost use Rattle.entry_id.specs.Code.Spans.{PlanIs, chunks, headText};
 ghost use Rattle.wire.specs.Bytes.{overwrite};
 use crate::features::Span;

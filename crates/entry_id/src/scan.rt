@@ -1,9 +1,8 @@
 // Reading one text: classes of bytes, and how far a run of one class goes.
 ghost use mathlib.Core.Path.{_≡_};
-ghost use Prim.Native.Nat.{ℕ, _+_, _-_, _<_, _≤_};
-ghost use mathlib.Core.Bool.{true, false};
-ghost use mathlib.Core.List.{[], _++_};
-ghost use lib.ListN.{length, getD, take, drop};
+ghost use Prim.Native.Nat.{_<_, _≤_};
+ghost use mathlib.Core.Bool.{true};
+ghost use lib.ListN.{length, getD};
 ghost use Rattle.entry_id.specs.Meaning.{fieldByte, nameByte};
 ghost use Rattle.entry_id.specs.Code.Scan.{Run, inClass, endsAt, notColon};
 

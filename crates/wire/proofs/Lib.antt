@@ -5,3 +5,4 @@ pub mod OverwriteLaws
 pub mod SortLaws
 pub mod FirstLaws
 pub mod StopLaws
+pub mod Theorems

@@ -4,3 +4,4 @@ pub mod Lists
 pub mod Order
 pub mod First
 pub mod Stop
+pub mod Theorems
