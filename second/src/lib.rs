@@ -1,0 +1,4 @@
+//! A second implementation of the rules of document 01, and what compares the library with it.
+
+pub mod model;
+pub mod samples;
