@@ -4,9 +4,9 @@ pub mod binaries;
 pub mod binary_writer;
 pub mod bundle;
 pub mod bundle_writer;
-pub mod id;
 #[cfg(test)]
 mod examples;
+pub mod id;
 
 // "Numbers that come back".
 pub const OK: u64 = 0;

@@ -65,11 +65,7 @@ pub const BUNDLES: &[BundleSample] = &[
             ("openmp-nvptx64-nvidia-cuda--sm_80", sample!("images/sm_80.s")),
         ],
     },
-    BundleSample {
-        name: "host-only",
-        bytes: sample!("bundles/host-only.bundle"),
-        entries: &[(HOST, b"")],
-    },
+    BundleSample { name: "host-only", bytes: sample!("bundles/host-only.bundle"), entries: &[(HOST, b"")] },
     BundleSample {
         name: "five-fields",
         bytes: sample!("bundles/five-fields.bundle"),
@@ -213,9 +209,7 @@ mod tests {
     }
 
     fn pairs<'a>(bytes: &'a [u8], pairs: &[Pair]) -> BTreeMap<&'a str, &'a str> {
-        let text = |place: u64, length: u64| {
-            std::str::from_utf8(&bytes[place as usize..][..length as usize]).unwrap()
-        };
+        let text = |place: u64, length: u64| std::str::from_utf8(&bytes[place as usize..][..length as usize]).unwrap();
         pairs
             .iter()
             .map(|pair| (text(pair.key_place, pair.key_length), text(pair.text_place, pair.text_length)))

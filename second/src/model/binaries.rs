@@ -40,9 +40,7 @@ pub struct Binary {
 /// gives the same."
 pub fn next(binaries: &[u8], cursor: Cursor) -> (Binary, Cursor) {
     match read(binaries, cursor) {
-        Err(refusal) => {
-            (Binary { number: refusal.number, place: refusal.place, ..Binary::default() }, cursor)
-        }
+        Err(refusal) => (Binary { number: refusal.number, place: refusal.place, ..Binary::default() }, cursor),
         Ok(binary) => {
             let after = Cursor { at: cursor.at + binary.size as usize, taken: cursor.taken + 1 };
             (binary, after)
@@ -135,11 +133,7 @@ fn bad_image(binary: &[u8], entry: &[u8]) -> bool {
 
 /// The accepted binary, its places counted from the container's first byte.
 fn answer(binary: &[u8], entry: &[u8], pairs: Vec<Pair>, first: u64) -> Binary {
-    let moved = |pair: Pair| Pair {
-        key_place: first + pair.key_place,
-        text_place: first + pair.text_place,
-        ..pair
-    };
+    let moved = |pair: Pair| Pair { key_place: first + pair.key_place, text_place: first + pair.text_place, ..pair };
     Binary {
         number: OK,
         place: 0,

@@ -108,13 +108,9 @@ pub fn check(bundle: &[u8]) -> Checked {
 pub fn pick(bundle: &[u8], device: &[u8]) -> Picked {
     match picked_entry(bundle, device) {
         Err(refusal) => Picked { number: refusal.number, place: refusal.place, ..Picked::default() },
-        Ok((index, entry)) => Picked {
-            number: OK,
-            place: 0,
-            index: index as u64,
-            position: entry.offset,
-            size: entry.image.len() as u64,
-        },
+        Ok((index, entry)) => {
+            Picked { number: OK, place: 0, index: index as u64, position: entry.offset, size: entry.image.len() as u64 }
+        }
     }
 }
 

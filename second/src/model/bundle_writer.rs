@@ -22,8 +22,7 @@ pub fn write_bundle(records: &[Record], ids: &[u8], images: &[u8], out: &mut [u8
 fn output(records: &[Record], ids: &[u8], images: &[u8], room: usize) -> Result<Vec<u8>, Refusal> {
     refuse_if(records.len() as u64 > ENTRY_LIMIT, COUNT)?;
     refuse_at(records.len(), TABLE, |i| id_part(&records[i], ids).is_none())?;
-    let meanings: Vec<Option<Meaning>> =
-        records.iter().map(|record| id_part(record, ids).and_then(meaning)).collect();
+    let meanings: Vec<Option<Meaning>> = records.iter().map(|record| id_part(record, ids).and_then(meaning)).collect();
     refuse_at(records.len(), ID, |i| meanings[i].is_none())?;
     let meanings: Vec<Meaning> = meanings.into_iter().flatten().collect();
     let parts: Vec<Option<&[u8]>> =

@@ -21,8 +21,7 @@ fn refused(id: &str) -> bool {
 
 /// A bundle with these IDs as spelled and these images, packed.
 fn bundle(entries: &[(&str, &[u8])]) -> Vec<u8> {
-    let entries: Vec<(Vec<u8>, &[u8])> =
-        entries.iter().map(|(id, image)| (id.as_bytes().to_vec(), *image)).collect();
+    let entries: Vec<(Vec<u8>, &[u8])> = entries.iter().map(|(id, image)| (id.as_bytes().to_vec(), *image)).collect();
     packed(&entries)
 }
 
@@ -208,14 +207,39 @@ fn environment_that_begins_like_a_processor() {
 #[test]
 fn spelling_rules() {
     for id in [
-        "", "hip", "hip-a-b", "hip-a-b-c-d-e-f", "HIP-a-b-c", "hipv5-a-b-c", "-a-b-c", "hip--b-c", "hip-a--c",
-        "hip-a-b-", "hip-a+-b-c", "hip-a-b-c d", "hip-a-b-c-gfx9:", "hip-a-b-c-gfx9:+", "hip-a-b-c-gfx9:x",
-        "hip-a-b-c-gfx9:X+", "hip-a-b-c-gfx9:x.y+", "hip-a-b-c-gfx9:x+:x-", "hip-a-b-c-gfx9:x+:x+",
-        "hip-a-b-c-gfx9::x+", "hip-a-b-c:x+", "hip-a-b-c-d:x+", "hip-a-b-c-gfx9:a+:b+:c+:d+:e+:f+:g+:h+:i+",
+        "",
+        "hip",
+        "hip-a-b",
+        "hip-a-b-c-d-e-f",
+        "HIP-a-b-c",
+        "hipv5-a-b-c",
+        "-a-b-c",
+        "hip--b-c",
+        "hip-a--c",
+        "hip-a-b-",
+        "hip-a+-b-c",
+        "hip-a-b-c d",
+        "hip-a-b-c-gfx9:",
+        "hip-a-b-c-gfx9:+",
+        "hip-a-b-c-gfx9:x",
+        "hip-a-b-c-gfx9:X+",
+        "hip-a-b-c-gfx9:x.y+",
+        "hip-a-b-c-gfx9:x+:x-",
+        "hip-a-b-c-gfx9:x+:x+",
+        "hip-a-b-c-gfx9::x+",
+        "hip-a-b-c:x+",
+        "hip-a-b-c-d:x+",
+        "hip-a-b-c-gfx9:a+:b+:c+:d+:e+:f+:g+:h+:i+",
     ] {
         assert!(refused(id), "{id}");
     }
-    for id in ["hip-a-b-c", "host-A_.9-b-c-", "openmp-a-b-c-sm_", "hipv4-a-b-c--x:_+:0-", "hip-a-b-c-gfx9:a+:b+:c+:d+:e+:f+:g+:h+"] {
+    for id in [
+        "hip-a-b-c",
+        "host-A_.9-b-c-",
+        "openmp-a-b-c-sm_",
+        "hipv4-a-b-c--x:_+:0-",
+        "hip-a-b-c-gfx9:a+:b+:c+:d+:e+:f+:g+:h+",
+    ] {
         assert!(!refused(id), "{id}");
     }
 }
@@ -232,10 +256,8 @@ fn id_limits() {
 
 #[test]
 fn picks() {
-    let bytes = bundle(&[
-        ("hip-amdgcn-amd-amdhsa-gfx906:xnack+", b"on"),
-        ("hip-amdgcn-amd-amdhsa-gfx906:xnack-", b"off"),
-    ]);
+    let bytes =
+        bundle(&[("hip-amdgcn-amd-amdhsa-gfx906:xnack+", b"on"), ("hip-amdgcn-amd-amdhsa-gfx906:xnack-", b"off")]);
     let position = bytes.len() as u64 - 3;
     let found = Picked { number: OK, place: 0, index: 1, position, size: 3 };
     assert_eq!(pick(&bytes, b"hip-amdgcn-amd-amdhsa--gfx906:xnack-:sramecc+"), found);

@@ -148,8 +148,7 @@ pub fn same_target(one: &Meaning, other: &Meaning) -> bool {
 
 /// "every feature that the entry states is stated by the device with the same sign".
 pub fn compatible(entry: &Meaning, device: &Meaning) -> bool {
-    same_target(entry, device)
-        && entry.features.iter().all(|(name, sign)| device.features.get(name) == Some(sign))
+    same_target(entry, device) && entry.features.iter().all(|(name, sign)| device.features.get(name) == Some(sign))
 }
 
 /// "Entries with the same kind, triple and processor state the same set of feature names": these two do not.
