@@ -74,6 +74,8 @@ pub struct AimTally {
 pub struct Report {
     pub tallies: Vec<Tally>,
     pub aims: Vec<AimTally>,
+    /// For each number of entries, how often a bundle with so many was accepted; empty in other families.
+    pub entry_counts: Vec<u64>,
 }
 
 impl Report {
@@ -81,7 +83,11 @@ impl Report {
         let tally = |(call, must_come): &(&'static str, &'static [u64])| Tally { call, must_come, seen: [0; 20] };
         let aim =
             |aim: &Aim<D>| AimTally { name: aim.name.clone(), call: aim.call, number: aim.number, tried: 0, met: 0 };
-        Report { tallies: calls.iter().map(tally).collect(), aims: aims.iter().map(aim).collect() }
+        Report {
+            tallies: calls.iter().map(tally).collect(),
+            aims: aims.iter().map(aim).collect(),
+            entry_counts: Vec::new(),
+        }
     }
 
     pub fn count(&mut self, call: &str, number: u64) {
@@ -100,13 +106,15 @@ impl Report {
         }
     }
 
-    /// Numbers that never came and lines that were never met.
+    /// Numbers that never came, counts of entries that were never accepted, and lines that were never met.
     pub fn missing(&self) -> Vec<String> {
         let mut missing = Vec::new();
         for tally in &self.tallies {
             let never = tally.must_come.iter().filter(|number| tally.seen[**number as usize] == 0);
             missing.extend(never.map(|number| format!("{}: number {number} never came", tally.call)));
         }
+        let never = self.entry_counts.iter().enumerate().filter(|(_, seen)| **seen == 0);
+        missing.extend(never.map(|(count, _)| format!("check: no bundle of {count} entries was accepted")));
         let never = self.aims.iter().filter(|aim| aim.met == 0);
         missing.extend(never.map(|aim| format!("{}: never met with number {}: {}", aim.call, aim.number, aim.name)));
         missing

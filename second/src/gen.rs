@@ -3,6 +3,7 @@
 pub mod binaries;
 pub mod binary_contents;
 pub mod bundles;
+pub mod examples;
 pub mod ids;
 pub mod random;
 pub mod records;

@@ -75,7 +75,12 @@ fn run(mut family: Box<dyn Family>, options: &Options) {
         let result = family.run(&mut Random::of_case(options.seed, case));
         result.unwrap_or_else(|difference| differs(&*family, &difference));
     }
-    println!("{}: {} cases, {fixed} of them real files, {:.1?}", family.name(), options.cases + fixed, start.elapsed());
+    println!(
+        "{}: {} generated cases, {fixed} examples and real files, {:.1?}",
+        family.name(),
+        options.cases,
+        start.elapsed()
+    );
     print_numbers(family.report());
     if options.aims {
         print_aims(family.report());
@@ -113,8 +118,11 @@ fn require_all(report: &Report) {
     if !missing.is_empty() {
         exit(1);
     }
+    if let Some(least) = report.entry_counts.iter().min() {
+        println!("  bundles of 0 to 64 entries were accepted, each count {least} times or more");
+    }
     let least = report.aims.iter().map(|aim| aim.met).min().unwrap_or(0);
-    println!("  every number came; {} lines aimed at, each met {least} times or more", report.aims.len());
+    println!("  {} lines were aimed at, each met {least} times or more", report.aims.len());
 }
 
 fn differs(family: &dyn Family, difference: &Difference) -> ! {
@@ -127,7 +135,7 @@ fn differs(family: &dyn Family, difference: &Difference) -> ! {
 fn fail(family: &dyn Family) -> ! {
     let options = OPTIONS.get().expect("options are read first");
     match CASE.load(Relaxed) {
-        u64::MAX => println!("  a case of the real files, which always run"),
+        u64::MAX => println!("  an example or a real file: these always run"),
         case => println!("  run again: --seed {} --first {case} --cases 1", options.seed),
     }
     for (name, bytes) in family.files() {

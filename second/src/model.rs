@@ -7,6 +7,8 @@ pub mod bundle_writer;
 #[cfg(test)]
 mod examples;
 pub mod id;
+#[cfg(test)]
+mod properties;
 
 // "Numbers that come back".
 pub const OK: u64 = 0;

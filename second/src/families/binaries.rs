@@ -3,6 +3,7 @@
 use super::*;
 use crate::calls::BinaryReader;
 use crate::gen::binaries::{aims, sample_case, shake, some_draft, Case, Draft};
+use crate::gen::examples::binaries_cases;
 use crate::guard::Inputs;
 use crate::model::binaries::{next, Cursor};
 use crate::samples;
@@ -54,11 +55,14 @@ impl Family for Binaries {
     }
 
     fn run_fixed(&mut self) -> Result<u64, Difference> {
-        for sample in samples::BINARIES {
-            self.case = Case { binaries: sample.bytes.to_vec(), zeros: 0 };
+        let mut cases = binaries_cases();
+        cases.extend(samples::BINARIES.iter().map(|sample| Case { binaries: sample.bytes.to_vec(), zeros: 0 }));
+        let count = cases.len() as u64;
+        for case in cases {
+            self.case = case;
             self.compare()?;
         }
-        Ok(samples::BINARIES.len() as u64)
+        Ok(count)
     }
 
     fn run(&mut self, random: &mut Random) -> Result<(), Difference> {

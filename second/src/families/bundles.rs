@@ -3,6 +3,7 @@
 use super::*;
 use crate::calls::{BundleCalls, NormaliseCalls};
 use crate::gen::bundles::{aims, sample_case, shake, some_count, Case, Draft};
+use crate::gen::examples::bundle_cases;
 use crate::gen::Room;
 use crate::guard::{Inputs, Output};
 use crate::model::bundle::{check, normalise, pick, Checked, Picked};
@@ -33,9 +34,10 @@ impl Bundles {
         } else {
             aims.retain(|aim| aim.call != NORMALISE.0);
         }
+        let report = Report { entry_counts: vec![0; 65], ..Report::new(&tallies, &aims) };
         Bundles {
             calls,
-            report: Report::new(&tallies, &aims),
+            report,
             aims,
             bundle: Inputs::new(),
             device: Inputs::new(),
@@ -57,6 +59,9 @@ impl Bundles {
         let numbers = [(CHECK.0, checked.number), (PICK.0, picked.number), (NORMALISE.0, written.number)];
         for (call, number) in numbers {
             self.report.count(call, number);
+        }
+        if checked.number == OK {
+            self.report.entry_counts[checked.count as usize] += 1;
         }
         Ok(numbers)
     }
@@ -119,15 +124,20 @@ impl Family for Bundles {
         "bundles"
     }
 
-    /// Each real bundle with each device name.
+    /// The examples of document 01, and each real bundle with each device name.
     fn run_fixed(&mut self) -> Result<u64, Difference> {
+        let mut cases = bundle_cases();
         for sample in samples::BUNDLES {
             for device in samples::DEVICES {
                 let (bundle, device) = (sample.bytes.to_vec(), device.as_bytes().to_vec());
-                self.run_case(Case { bundle, zeros: 0, device, room: Room::Exact }, None)?;
+                cases.push(Case { bundle, zeros: 0, device, room: Room::Exact });
             }
         }
-        Ok((samples::BUNDLES.len() * samples::DEVICES.len()) as u64)
+        let count = cases.len() as u64;
+        for case in cases {
+            self.run_case(case, None)?;
+        }
+        Ok(count)
     }
 
     fn run(&mut self, random: &mut Random) -> Result<(), Difference> {

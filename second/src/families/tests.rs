@@ -15,7 +15,7 @@ fn run(family: &mut dyn Family, cases: u64) -> Result<(), Difference> {
 }
 
 fn meets_every_line(mut family: impl Family) {
-    run(&mut family, 8000).unwrap();
+    run(&mut family, 20_000).unwrap();
     assert_eq!(family.report().missing(), Vec::<String>::new());
 }
 

@@ -287,6 +287,10 @@ fn normalise(number: u64, name: &str, make: impl Fn(&mut Draft, &mut Random) + '
 fn shape_aims() -> Vec<BundleAim> {
     vec![
         check(OK, "any entries", |_, _| {}),
+        check(OK, "0 to 64 entries", |draft, random| {
+            let count = random.between(0, 64);
+            *draft = Draft::good(random, count);
+        }),
         check(OK, "no entries", |draft, random| *draft = Draft::good(random, 0)),
         check(OK, "1 entry", |draft, random| *draft = Draft::good(random, 1)),
         check(OK, "63 entries", |draft, random| *draft = Draft::good(random, 63)),

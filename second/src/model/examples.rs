@@ -1,11 +1,12 @@
 //! The examples of document 01's section "Bench pieces on each side of a line", all of them, and the slips it names.
 
 use super::binaries::{read_all, Binary, Pair};
-use super::binary_writer::{write_binary, Content, PairParts};
-use super::bundle::{check, normalise, packed, pick, Checked, Picked, MAGIC_BYTES};
+use super::binary_writer::{write_binary, Content};
+use super::bundle::{check, normalise, pick, Checked, Picked, MAGIC_BYTES};
 use super::bundle_writer::{write_bundle, Record};
 use super::id::{canonical, compatible, meaning, Meaning};
 use super::*;
+use crate::gen::examples::*;
 
 fn known(id: &str) -> Meaning {
     meaning(id.as_bytes()).expect(id)
@@ -17,18 +18,6 @@ fn canonical_text(id: &str) -> String {
 
 fn refused(id: &str) -> bool {
     meaning(id.as_bytes()).is_none()
-}
-
-/// A bundle with these IDs as spelled and these images, packed.
-fn bundle(entries: &[(&str, &[u8])]) -> Vec<u8> {
-    let entries: Vec<(Vec<u8>, &[u8])> = entries.iter().map(|(id, image)| (id.as_bytes().to_vec(), *image)).collect();
-    packed(&entries)
-}
-
-/// The bundle with another number in an 8-byte field.
-fn with_field(mut bundle: Vec<u8>, at: usize, value: u64) -> Vec<u8> {
-    bundle[at..at + 8].copy_from_slice(&value.to_le_bytes());
-    bundle
 }
 
 fn refusal(number: u64, place: u64) -> Checked {
@@ -65,7 +54,7 @@ fn no_entries() {
 
 #[test]
 fn host_without_processor() {
-    let text = canonical_text("host-x86_64-unknown-linux-gnu");
+    let text = canonical_text(HOST);
     assert_eq!(text, "host-x86_64-unknown-linux-gnu-");
     assert_eq!(text.len(), 30);
     let expected = [
@@ -79,53 +68,48 @@ fn host_without_processor() {
     ]
     .concat();
     assert_eq!(expected.len(), 91);
-    assert_eq!(normal(&bundle(&[("host-x86_64-unknown-linux-gnu", b"12345")])), expected);
+    assert_eq!(normal(&bundle(&[(HOST, b"12345")])), expected);
     assert_eq!(normal(&expected), expected);
 }
 
 #[test]
 fn features_in_order() {
-    let text = canonical_text("hip-amdgcn-amd-amdhsa-gfx906:xnack+:sramecc-");
+    let text = canonical_text(SHUFFLED);
     assert_eq!(text, "hip-amdgcn-amd-amdhsa--gfx906:sramecc-:xnack+");
+    assert_eq!(text, IN_ORDER);
     assert_eq!(text.len(), 45);
     assert_eq!(canonical_text("hip-a-b-c-gfx9:ab+:a-"), "hip-a-b-c--gfx9:a-:ab+");
 }
 
 #[test]
 fn device_states_more() {
-    let entry = known("hip-amdgcn-amd-amdhsa-gfx906");
-    assert!(compatible(&entry, &known("hip-amdgcn-amd-amdhsa-gfx906:sramecc+:xnack-")));
+    let entry = known(PLAIN);
+    assert!(compatible(&entry, &known(BOTH_STATED)));
 }
 
 #[test]
 fn device_states_less() {
-    let entry = known("hip-amdgcn-amd-amdhsa-gfx906:xnack-");
-    assert!(!compatible(&entry, &known("hip-amdgcn-amd-amdhsa-gfx906")));
-    assert!(!compatible(&entry, &known("hip-amdgcn-amd-amdhsa-gfx906:xnack+")));
+    let entry = known(XNACK_OFF);
+    assert!(!compatible(&entry, &known(PLAIN)));
+    assert!(!compatible(&entry, &known(XNACK_ON)));
 }
 
 #[test]
 fn mixed_at_the_second() {
-    let bytes = bundle(&[("hip-amdgcn-amd-amdhsa-gfx906", b""), ("hip-amdgcn-amd-amdhsa-gfx906:xnack+", b"")]);
+    let bytes = bundle(&[(PLAIN, b""), (XNACK_ON, b"")]);
     assert_eq!(check(&bytes), refusal(MIXED, 1));
 }
 
 #[test]
 fn twice_in_two_spellings() {
-    let bytes = bundle(&[
-        ("hip-amdgcn-amd-amdhsa-gfx906:xnack+:sramecc-", b""),
-        ("hip-amdgcn-amd-amdhsa--gfx906:sramecc-:xnack+", b""),
-    ]);
+    let bytes = bundle(&[(SHUFFLED, b""), (IN_ORDER, b"")]);
     assert_eq!(check(&bytes), refusal(TWICE, 1));
 }
 
 #[test]
 fn offset_at_the_length() {
-    let bytes = bundle(&[("hip-amdgcn-amd-amdhsa", b"123")]);
-    let length = bytes.len() as u64;
-    let empty = with_field(with_field(bytes, 32, length), 40, 0);
-    assert_eq!(check(&empty), accepted(1));
-    assert_eq!(check(&with_field(empty, 40, 1)), refusal(RANGE, 0));
+    assert_eq!(check(&at_the_length(0)), accepted(1));
+    assert_eq!(check(&at_the_length(1)), refusal(RANGE, 0));
 }
 
 #[test]
@@ -142,10 +126,8 @@ fn binary_of_72_bytes() {
 
 #[test]
 fn binary_of_112_bytes() {
-    let pairs = vec![PairParts { key_start: 0, key_length: 4, text_start: 4, text_length: 5 }];
-    let content = Content { image_kind: 3, offload_kind: 2, flags: 7, pairs };
     let mut out = [0xA5; 112];
-    let written = write_binary(&content, b"archsm_70", b"img", &mut out);
+    let written = write_binary(&sm_70(), SM_70_STRINGS, SM_70_IMAGE, &mut out);
     assert_eq!(written, Written { number: OK, place: 0, length: 112 });
     assert_eq!(&out[88..112], b"arch\0sm_70\0\0\0\0\0\0img\0\0\0\0\0");
     let pairs = vec![Pair { key_place: 88, key_length: 4, text_place: 93, text_length: 5 }];
@@ -162,13 +144,6 @@ fn binary_of_112_bytes() {
     assert_eq!(read_all(&out)[0], expected);
 }
 
-/// Environments e0, e1 .. make as many meanings as are asked for.
-fn many(count: usize) -> Vec<u8> {
-    let ids: Vec<String> = (0..count).map(|k| format!("hip-a-b-c-e{k}")).collect();
-    let entries: Vec<(&str, &[u8])> = ids.iter().map(|id| (id.as_str(), &b"x"[..])).collect();
-    bundle(&entries)
-}
-
 #[test]
 fn count_of_64_and_65() {
     assert_eq!(check(&many(64)), accepted(64));
@@ -183,8 +158,8 @@ fn id_length_of_all_ones() {
 
 #[test]
 fn feature_without_processor() {
-    assert!(refused("hip-a-b-c-d-:xnack+"));
-    assert_eq!(check(&bundle(&[("hip-a-b-c-d-:xnack+", b"")])), refusal(ID, 0));
+    assert!(refused(NO_PROCESSOR));
+    assert_eq!(check(&bundle(&[(NO_PROCESSOR, b"")])), refusal(ID, 0));
 }
 
 #[test]
@@ -256,8 +231,7 @@ fn id_limits() {
 
 #[test]
 fn picks() {
-    let bytes =
-        bundle(&[("hip-amdgcn-amd-amdhsa-gfx906:xnack+", b"on"), ("hip-amdgcn-amd-amdhsa-gfx906:xnack-", b"off")]);
+    let bytes = bundle(&[(XNACK_ON, b"on"), (XNACK_OFF, b"off")]);
     let position = bytes.len() as u64 - 3;
     let found = Picked { number: OK, place: 0, index: 1, position, size: 3 };
     assert_eq!(pick(&bytes, b"hip-amdgcn-amd-amdhsa--gfx906:xnack-:sramecc+"), found);
