@@ -11,12 +11,15 @@ pub mod records;
 use crate::model::SIZE_LIMIT;
 use random::Random;
 
+/// What an aim does to a case that is being made.
+pub type Make<Draft> = Box<dyn Fn(&mut Draft, &mut Random)>;
+
 /// One thing a case can be aimed at: a line of document 01, on one side. The number is what the call has to give.
 pub struct Aim<Draft> {
     pub name: String,
     pub call: &'static str,
     pub number: u64,
-    pub make: Box<dyn Fn(&mut Draft, &mut Random)>,
+    pub make: Make<Draft>,
 }
 
 impl<Draft> Aim<Draft> {

@@ -327,7 +327,7 @@ fn span_aims() -> Vec<BinaryAim> {
             draft.tail = BinaryDraft::good(random, 0).bytes();
             draft.tail.truncate(32);
         }),
-        read(END, "smallest binary", |draft, random| smallest(draft, random)),
+        read(END, "smallest binary", smallest),
         last(SPAN, "size of 71", |binary, _| binary.size = Some(71)),
         last(SPAN, "size under 72", |binary, random| binary.size = Some(random.below(72) as u64)),
         last(SPAN, "size 1 above what is left", |binary, _| binary.size = Some(binary.length() + 1)),
@@ -346,9 +346,9 @@ fn span_aims() -> Vec<BinaryAim> {
         }),
         some(SPAN, "entry offset of 31", |binary, _| binary.entry_offset = 31),
         some(SPAN, "entry offset under 32", |binary, random| binary.entry_offset = random.below(32) as u64),
-        some(END, "entry at the end", |binary, _| move_entry(binary, 0)),
+        some(END, "entry at the end", |binary, _| move_entry(binary)),
         some(SPAN, "entry 1 past the end", |binary, _| {
-            move_entry(binary, 0);
+            move_entry(binary);
             binary.entry_offset += 1;
         }),
         some(SPAN, "entry offset of 2^64 - 1", |binary, _| binary.entry_offset = u64::MAX),
@@ -370,11 +370,10 @@ fn smallest(draft: &mut Draft, random: &mut Random) {
     draft.replace_some(random, binary);
 }
 
-/// The entry stands at the end of the binary, with so many bytes after it.
-fn move_entry(binary: &mut BinaryDraft, after: usize) {
+/// The entry stands at the end of the binary.
+fn move_entry(binary: &mut BinaryDraft) {
     binary.entry_offset = binary.append(&[0; 40]);
     binary.entry_at = binary.entry_offset as usize;
-    binary.append(&vec![0; after]);
 }
 
 /// 15.

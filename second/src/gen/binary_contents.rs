@@ -149,8 +149,8 @@ fn string_aims() -> Vec<ContentAim> {
         replaced(STRINGS, "text of 257 bytes", false, |random| string_of(random, 257)),
         replaced(STRINGS, "empty key", true, |_| Vec::new()),
         replaced(OK, "empty text", false, |_| Vec::new()),
-        replaced(STRINGS, "zero byte in a key", true, |random| with_zero(random)),
-        replaced(STRINGS, "zero byte in a text", false, |random| with_zero(random)),
+        replaced(STRINGS, "zero byte in a key", true, with_zero),
+        replaced(STRINGS, "zero byte in a text", false, with_zero),
         write(STRINGS, "equal keys in one part", |case, random| {
             let at = case.some_pair(random);
             case.content.pairs.truncate(31);
@@ -228,6 +228,6 @@ fn output_aims() -> Vec<ContentAim> {
 /// No pairs, and an image of this length, less up to 7 bytes that zero bytes make up for.
 fn output_length(case: &mut Case, random: &mut Random, image: usize) {
     *case = Case::good(random, 0);
-    let less = if image % 8 == 0 { random.below(8) } else { 0 };
+    let less = if image.is_multiple_of(8) { random.below(8) } else { 0 };
     case.zeros = image - less - case.image.len();
 }

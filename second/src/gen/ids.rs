@@ -248,7 +248,7 @@ pub const BROKEN: &[IdMaker] = &[
     IdMaker { name: "sign before the name", make: |random| broken_piece(random, |_| b"+xnack".to_vec()) },
     IdMaker { name: "empty name", make: |random| broken_piece(random, |random| vec![*random.choose(b"+-")]) },
     IdMaker { name: "empty feature", make: |random| broken_piece(random, |_| Vec::new()) },
-    IdMaker { name: "two signs", make: |random| broken_piece(random, |random| two_signs(random)) },
+    IdMaker { name: "two signs", make: |random| broken_piece(random, two_signs) },
     IdMaker { name: "byte that no name has", make: |random| broken_piece(random, wrong_name) },
     IdMaker { name: "name twice, same sign", make: |random| name_twice(random, |sign| sign) },
     IdMaker { name: "name twice, other sign", make: |random| name_twice(random, other_sign) },
