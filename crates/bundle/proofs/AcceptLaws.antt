@@ -11,31 +11,33 @@ use Rattle.wire.proofs.ByteLaws.{same-true, eq-same}
 use Rattle.wire.proofs.StopLaws.{⨾-both, ⨾-left, ⨾-right, stopIf-go, stopIf-no, stopAt-go, stopAt-no, stopAt-same, earlier-same, earlier-none, none-earlier}
 use Rattle.entry_id.specs.IdRules.{IdRules}
 use Rattle.bundle.specs.Table.{Row, magic, rowStart}
-use Rattle.bundle.specs.Check.{outside, headStop, rowsStop, bundleStop, badId, meanSame, mix}
+use Rattle.bundle.specs.Check.{outside, headStop, tableStop, rowsStop, bundleStop, badId, meanSame, mix}
 use Rattle.bundle.specs.Accepted.{Framed, Meant, Sound, Accepted}
 use Rattle.bundle.proofs.CheckLaws.{rowFits, inside}
 
-pub framed : (s : List ℕ) → headStop s .number ≡ 0 → Framed s
-unfolding headStop
-framed s e =
+pub framed : (s : List ℕ) → headStop s .number ≡ 0 → tableStop s .number ≡ 0 → Framed s
+unfolding headStop tableStop
+framed s e t =
     let e₂ = ⨾-right _ _ e in
-    let e₃ = ⨾-right _ _ e₂ in
-    let o = or-neither _ _ (stopIf-no 2 _ (⨾-left _ _ e₃)) in
+    let o = or-neither _ _ (stopIf-no 2 _ (⨾-right _ _ e₂)) in
     record {
       fits = ltb-false _ _ (stopIf-no 0 _ (⨾-left _ _ e));
       magical = same-true _ _ (not-no _ (stopIf-no 1 _ (⨾-left _ _ e₂)));
       long = ltb-false _ _ (o .0);
       few = ltb-false _ _ (o .1);
-      rows = λ i h. rowFits s (rowStart s i) .0 (stopAt-no 3 _ _ (⨾-right _ _ e₃) i h);
+      rows = λ i h. rowFits s (rowStart s i) .0 (stopAt-no 3 _ _ t i h);
     }
 
-pub framed-go : (s : List ℕ) → Framed s → headStop s ≡ go
+pub head-go : (s : List ℕ) → Framed s → headStop s ≡ go
 unfolding headStop
-framed-go s f =
+head-go s f =
     ⨾-both _ _ (stopIf-go 1 _ (le-ltb _ _ (f .fits)))
     (⨾-both _ _ (stopIf-go 2 _ (yes-not (same (take 24 s) magic) (eq-same _ _ (f .magical))))
-    (⨾-both _ _ (stopIf-go 3 _ (neither-or _ _ (le-ltb _ _ (f .long)) (le-ltb _ _ (f .few))))
-    (stopAt-go 4 _ _ (λ i h. rowFits s (rowStart s i) .1 (f .rows i h)))))
+    (stopIf-go 3 _ (neither-or _ _ (le-ltb _ _ (f .long)) (le-ltb _ _ (f .few)))))
+
+pub table-go : (s : List ℕ) → Framed s → tableStop s ≡ go
+unfolding tableStop
+table-go s f = stopAt-go 4 _ _ (λ i h. rowFits s (rowStart s i) .1 (f .rows i h))
 
 module _ (R : IdRules) where
   pub meant : (n : ℕ) (rows : ℕ → Row)
@@ -71,15 +73,15 @@ module _ (R : IdRules) where
   rowsStop-same end len n f g h =
       rw (
         stopAt-same 5 n (λ i. badId R (f i)) (λ i. badId R (g i)) (λ i l. rw (h i l)),
-        stopAt-same 6 n (λ i. outside end len (f i)) (λ i. outside end len (g i)) (λ i l. rw (h i l)),
+        stopAt-same 6 n (λ i. outside end len (f i .offset) (f i .size)) (λ i. outside end len (g i .offset) (g i .size)) (λ i l. rw (h i l)),
         stopAt-same 7 n (earlier (meanSame R) f) (earlier (meanSame R) g) (earlier-same (meanSame R) n f g h),
         stopAt-same 8 n (earlier (mix R) f) (earlier (mix R) g) (earlier-same (mix R) n f g h),
       )
 
   pub accepted : (s : List ℕ) → bundleStop R s .number ≡ 0 → Accepted R s
   unfolding bundleStop
-  accepted s e = record { frame = framed s (⨾-left _ _ e); sense = sound _ _ _ _ (⨾-right _ _ e) }
+  accepted s e = let e₂ = ⨾-right _ _ e in record { frame = framed s (⨾-left _ _ e) (⨾-left _ _ e₂); sense = sound _ _ _ _ (⨾-right _ _ e₂) }
 
   pub accepted-go : (s : List ℕ) → Accepted R s → bundleStop R s ≡ go
   unfolding bundleStop
-  accepted-go s a = ⨾-both _ _ (framed-go s (a .frame)) (sound-go _ _ _ _ (a .sense))
+  accepted-go s a = ⨾-both _ _ (head-go s (a .frame)) (⨾-both _ _ (table-go s (a .frame)) (sound-go _ _ _ _ (a .sense)))

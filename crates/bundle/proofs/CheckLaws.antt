@@ -12,7 +12,7 @@ use Rattle.wire.proofs.Bools.{and-both, both-and, or-neither, neither-or, not-n
 use Rattle.wire.proofs.StopLaws.{⨾-next, ⨾-stop}
 use Rattle.entry_id.specs.IdRules.{IdRules}
 use Rattle.bundle.specs.Table.{Row}
-use Rattle.bundle.specs.Check.{badRow, outside, unrefused, headStop, rowsStop, bundleStop}
+use Rattle.bundle.specs.Check.{badRow, outside, unrefused, headStop, tableStop, rowsStop, bundleStop}
 use Rattle.bundle.specs.Accepted.{RowFits, Inside}
 
 pub unrefused-go : (t : Stop) (v : ℕ) → t .number ≡ 0 → unrefused t v ≡ v
@@ -46,11 +46,12 @@ unfolding stopAt
 stopAt-le k m p n h = stopWhen-le (anyBelow m p) (stop k (first m p)) n h
 
 pub bundleStop-le : (R : IdRules) (s : List ℕ) → bundleStop R s .number ≤ 8
-unfolding bundleStop headStop rowsStop
+unfolding bundleStop headStop tableStop rowsStop
 bundleStop-le R s =
     ⨾-le _ _ 8
-    (⨾-le _ _ 8 (stopIf-le 1 _ 8 (omega arith)) (⨾-le _ _ 8 (stopIf-le 2 _ 8 (omega arith)) (⨾-le _ _ 8 (stopIf-le 3 _ 8 (omega arith)) (stopAt-le 4 _ _ 8 (omega arith)))))
-    (⨾-le _ _ 8 (stopAt-le 5 _ _ 8 (omega arith)) (⨾-le _ _ 8 (stopAt-le 6 _ _ 8 (omega arith)) (⨾-le _ _ 8 (stopAt-le 7 _ _ 8 (omega arith)) (stopAt-le 8 _ _ 8 (omega arith)))))
+    (⨾-le _ _ 8 (stopIf-le 1 _ 8 (omega arith)) (⨾-le _ _ 8 (stopIf-le 2 _ 8 (omega arith)) (stopIf-le 3 _ 8 (omega arith))))
+    (⨾-le _ _ 8 (stopAt-le 4 _ _ 8 (omega arith))
+    (⨾-le _ _ 8 (stopAt-le 5 _ _ 8 (omega arith)) (⨾-le _ _ 8 (stopAt-le 6 _ _ 8 (omega arith)) (⨾-le _ _ 8 (stopAt-le 7 _ _ 8 (omega arith)) (stopAt-le 8 _ _ 8 (omega arith))))))
 
 -- ---- tests as facts
 
@@ -65,7 +66,7 @@ rowFits s from = (
   (λ f. yes-not _ (both-and _ _ (both-and _ _ (both-and _ _ (le-leb _ _ (f .head-in)) (le-leb _ _ (f .id-some))) (le-leb _ _ (f .id-short))) (le-leb _ _ (f .id-in)))),
 )
 
-pub inside : (end len : ℕ) (r : Row) → outside end len r ≡ false ↔ Inside end len r
+pub inside : (end len : ℕ) (r : Row) → outside end len (r .offset) (r .size) ≡ false ↔ Inside end len r
 unfolding outside
 inside end len r =
     ((λ e. let a = or-neither _ _ e in record { after = ltb-false _ _ (a .0); within = ltb-false _ _ (a .1) }), (λ f. neither-or _ _ (le-ltb _ _ (f .after)) (le-ltb _ _ (f .within))))

@@ -14,7 +14,7 @@ use Rattle.bundle.specs.Table.{count, rowStart, row, rowAt, tableEnd}
 use Rattle.bundle.specs.Check.{check, bundleStop}
 use Rattle.bundle.specs.Pick.{compatibleAt, chosen, pickStop, pick}
 use Rattle.bundle.specs.Accepted.{RowFits, Framed}
-use Rattle.bundle.proofs.AcceptLaws.{framed-go, rowsStop-same}
+use Rattle.bundle.proofs.AcceptLaws.{head-go, table-go, rowsStop-same}
 use Rattle.bundle.proofs.PickLaws.{refused-by, chosen-lt}
 
 -- a part of two lists that agree there
@@ -97,7 +97,7 @@ module _ (s t : List ℕ) (f : Framed s) (len : length s ≡ length t) (agree : 
     bundleStop-same : bundleStop R s ≡ bundleStop R t
     unfolding bundleStop
     bundleStop-same =
-        rw (framed-go s f, framed-go t framed-same, ← end-same, ← len, ← count-same, rowsStop-same R (tableEnd s) (length s) (count s) (row s) (row t) row-same)
+        rw (head-go s f, head-go t framed-same, table-go s f, table-go t framed-same, ← end-same, ← len, ← count-same, rowsStop-same R (tableEnd s) (length s) (count s) (row s) (row t) row-same)
 
     pub check-same : check R s ≡ check R t
     unfolding check

@@ -22,18 +22,21 @@ badRow s from =
     let len = word 8 s (from + 16) in
     not (leb (from + 24) (length s) && leb 1 len && leb len 256 && leb (from + 24 + len) (length s))
 
--- RANGE of a row: "image offset before table end, or offset + size above the length"
-unfoldable pub outside : ℕ → ℕ → Row → Bool
-outside end len r = ltb (r .offset) end || ltb len (r .offset + r .size)
+-- RANGE of an image: "image offset before table end, or offset + size above the length"
+unfoldable pub outside : ℕ → ℕ → ℕ → ℕ → Bool
+outside end len offset size = ltb offset end || ltb len (offset + size)
 
 -- 1 LENGTH "container above the size limit"; 2 MAGIC "under 24 bytes, or the first 24 differ";
--- 3 COUNT "under 32 bytes, or count above 64"; 4 TABLE
+-- 3 COUNT "under 32 bytes, or count above 64"
 unfoldable pub headStop : List ℕ → Stop
 headStop s =
     stopIf 1 (ltb limit (length s))
     ⨾ stopIf 2 (not (same (take 24 s) magic))
     ⨾ stopIf 3 (ltb (length s) 32 || ltb 64 (count s))
-    ⨾ stopAt 4 (count s) (λ i. badRow s (rowStart s i))
+
+-- 4 TABLE
+unfoldable pub tableStop : List ℕ → Stop
+tableStop s = stopAt 4 (count s) (λ i. badRow s (rowStart s i))
 
 -- "A refusal .. has 0 in every other returned number": v where nothing is refused, else 0
 unfoldable pub unrefused : Stop → ℕ → ℕ
@@ -57,13 +60,13 @@ module _ (R : IdRules) where
   unfoldable pub rowsStop : ℕ → ℕ → ℕ → (ℕ → Row) → Stop
   rowsStop end len n rows =
       stopAt 5 n (λ i. badId (rows i))
-      ⨾ stopAt 6 n (λ i. outside end len (rows i))
+      ⨾ stopAt 6 n (λ i. outside end len (rows i .offset) (rows i .size))
       ⨾ stopAt 7 n (earlier meanSame rows)
       ⨾ stopAt 8 n (earlier mix rows)
 
   -- 1 to 8
   unfoldable pub bundleStop : List ℕ → Stop
-  bundleStop s = headStop s ⨾ rowsStop (tableEnd s) (length s) (count s) (row s)
+  bundleStop s = headStop s ⨾ tableStop s ⨾ rowsStop (tableEnd s) (length s) (count s) (row s)
 
   -- "An accepted call has place 0; a bundle check also returns the entry count"
   unfoldable pub check : List ℕ → Checked
