@@ -56,14 +56,14 @@ module _ (R : IdRules) where
       let e₃ = ⨾-right _ _ e₂ in
       record {
         meant = meant n rows (⨾-left _ _ e) (⨾-left _ _ e₃) (⨾-right _ _ e₃);
-        in-range = λ i h. inside end len (rows i) .0 (stopAt-no 5 _ _ (⨾-left _ _ e₂) i h);
+        in-range = λ i h. inside end len _ _ .0 (stopAt-no 5 _ _ (⨾-left _ _ e₂) i h);
       }
 
   pub sound-go : (end len n : ℕ) (rows : ℕ → Row) → Sound R end len n rows → rowsStop R end len n rows ≡ go
   unfolding rowsStop
   sound-go end len n rows f =
       ⨾-both _ _ (stopAt-go 5 _ _ (f .meant .named))
-      (⨾-both _ _ (stopAt-go 6 _ _ (λ i h. inside end len (rows i) .1 (f .in-range i h)))
+      (⨾-both _ _ (stopAt-go 6 _ _ (λ i h. inside end len _ _ .1 (f .in-range i h)))
       (⨾-both _ _ (stopAt-go 7 _ _ (λ i h. earlier-none _ rows i (f .meant .once i h)))
       (stopAt-go 8 _ _ (λ i h. earlier-none _ rows i (f .meant .unmixed i h)))))
 

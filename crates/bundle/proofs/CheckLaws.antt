@@ -3,16 +3,19 @@ use Prim.Native.Nat.{ℕ, zero, suc, _≤_}
 use native.Mathlib.Omega.{arith}
 use mathlib.Core.Logic.{_↔_}
 use mathlib.Core.Path.{_≡_, refl}
-use mathlib.Core.Bool.{Bool, true, false}
+use mathlib.Core.Bool.{Bool, true, false, not, _||_}
+use lib.Dec.{ltb}
+use lib.ListN.{length, take}
 use mathlib.Core.List.{List}
 use borrow.Author.Tests.{ltb-false, leb-true, le-ltb, le-leb}
+use Rattle.wire.specs.Bytes.{same}
 use Rattle.wire.specs.First.{first, anyBelow}
 use Rattle.wire.specs.Stop.{Stop, stop, _⨾_, stopWhen, stopIf, stopAt}
-use Rattle.wire.proofs.Bools.{and-both, both-and, or-neither, neither-or, not-no, yes-not}
+use Rattle.wire.proofs.Bools.{byBool, and-both, both-and, or-neither, neither-or, not-no, yes-not}
 use Rattle.wire.proofs.StopLaws.{⨾-next, ⨾-stop}
 use Rattle.entry_id.specs.IdRules.{IdRules}
-use Rattle.bundle.specs.Table.{Row}
-use Rattle.bundle.specs.Check.{badRow, outside, unrefused, headStop, tableStop, rowsStop, bundleStop}
+use Rattle.bundle.specs.Table.{magic, count}
+use Rattle.bundle.specs.Check.{limit, badRow, outside, unrefused, headStop, tableStop, rowsStop, bundleStop}
 use Rattle.bundle.specs.Accepted.{RowFits, Inside}
 
 pub unrefused-go : (t : Stop) (v : ℕ) → t .number ≡ 0 → unrefused t v ≡ v
@@ -66,7 +69,19 @@ rowFits s from = (
   (λ f. yes-not _ (both-and _ _ (both-and _ _ (both-and _ _ (le-leb _ _ (f .head-in)) (le-leb _ _ (f .id-some))) (le-leb _ _ (f .id-short))) (le-leb _ _ (f .id-in)))),
 )
 
-pub inside : (end len : ℕ) (r : Row) → outside end len (r .offset) (r .size) ≡ false ↔ Inside end len r
+pub rowBad : (s : List ℕ) (from : ℕ) → (RowFits s from → ⊥) → badRow s from ≡ true
+rowBad s from h = byBool (badRow s from) (λ t. t) (λ f. absurd (h (rowFits s from .0 f)))
+
+pub inside : (end len offset size : ℕ) → outside end len offset size ≡ false ↔ Inside end len offset size
 unfolding outside
-inside end len r =
+inside end len offset size =
     ((λ e. let a = or-neither _ _ e in record { after = ltb-false _ _ (a .0); within = ltb-false _ _ (a .1) }), (λ f. neither-or _ _ (le-ltb _ _ (f .after)) (le-ltb _ _ (f .within))))
+
+pub rangeBad : (end len offset size : ℕ) → (Inside end len offset size → ⊥) → outside end len offset size ≡ true
+rangeBad end len offset size h = byBool (outside end len offset size) (λ t. t) (λ f. absurd (h (inside end len offset size .0 f)))
+
+-- the three tests of the head decide
+pub head-is : (s : List ℕ) (a b c : Bool) → ltb limit (length s) ≡ a → same (take 24 s) magic ≡ b → (ltb (length s) 32 || ltb 64 (count s)) ≡ c
+    → stopIf 1 a ⨾ stopIf 2 (not b) ⨾ stopIf 3 c ≡ headStop s
+unfolding headStop
+head-is s a b c p q r = rw (p, q, r)

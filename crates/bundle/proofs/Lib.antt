@@ -5,3 +5,4 @@ pub mod EntryLaws
 pub mod PickLaws
 pub mod TableLaws
 pub mod Theorems
+pub mod RowLaws

@@ -95,7 +95,7 @@ module _ (R : IdRules) (s device : List ℕ) where
     unfolding pick
     stopless = e
 
-    chosen-inside : Inside (tableEnd s) (length s) (row s (chosen R s device))
+    chosen-inside : Inside (tableEnd s) (length s) (row s (chosen R s device) .offset) (row s (chosen R s device) .size)
     chosen-inside = picked-asked R s device stopless .bundle .sense .in-range (chosen R s device) (chosen-lt R s device stopless)
 
     image-after : tableEnd s ≤ pick R s device .position

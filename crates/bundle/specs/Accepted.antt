@@ -16,10 +16,10 @@ pub record RowFits (s : List ℕ) (from : ℕ) : Type 0 where
   pub id-short : word 8 s (from + 16) ≤ 256
   pub id-in : from + 24 + word 8 s (from + 16) ≤ length s
 
--- a row's image lies after the table and in the container, of `len` bytes
-pub record Inside (end len : ℕ) (r : Row) : Type 0 where
-  pub after : end ≤ r .offset
-  pub within : r .offset + r .size ≤ len
+-- an image lies after the table and in the container, of `len` bytes
+pub record Inside (end len offset size : ℕ) : Type 0 where
+  pub after : end ≤ offset
+  pub within : offset + size ≤ len
 
 pub record Framed (s : List ℕ) : Type 0 where
   -- 1
@@ -45,7 +45,7 @@ pub record Sound (R : IdRules) (end len n : ℕ) (rows : ℕ → Row) : Type 0 w
   -- 5, 7 and 8
   pub meant : Meant R n rows
   -- 6
-  pub in-range : (i : ℕ) → i < n → Inside end len (rows i)
+  pub in-range : (i : ℕ) → i < n → Inside end len (rows i .offset) (rows i .size)
 
 pub record Accepted (R : IdRules) (s : List ℕ) : Type 0 where
   -- 1 to 4

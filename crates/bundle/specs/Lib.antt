@@ -5,3 +5,4 @@ pub mod Entry
 pub mod Pick
 pub mod Accepted
 pub mod Theorems
+pub mod Code
