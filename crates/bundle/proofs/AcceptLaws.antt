@@ -1,8 +1,8 @@
 -- An accepted bundle keeps each rule, and a bundle that keeps each rule is accepted. Assumes nothing.
-use Prim.Native.Nat.{ℕ, _<_}
+use Prim.Native.Nat.{ℕ, _<_, _≤_}
 use mathlib.Core.Path.{_≡_}
 use mathlib.Core.List.{List}
-use lib.ListN.{take}
+use lib.ListN.{length, take}
 use borrow.Author.Tests.{ltb-false, le-ltb}
 use Rattle.wire.specs.Bytes.{same}
 use Rattle.wire.specs.Stop.{go, stopAt, earlier}
@@ -10,23 +10,24 @@ use Rattle.wire.proofs.Bools.{or-neither, neither-or, not-no, yes-not}
 use Rattle.wire.proofs.ByteLaws.{same-true, eq-same}
 use Rattle.wire.proofs.StopLaws.{⨾-both, ⨾-left, ⨾-right, stopIf-go, stopIf-no, stopAt-go, stopAt-no, stopAt-same, earlier-same, earlier-none, none-earlier}
 use Rattle.entry_id.specs.IdRules.{IdRules}
-use Rattle.bundle.specs.Table.{Row, magic, rowStart}
+use Rattle.bundle.specs.Table.{Row, magic, count, rowStart}
 use Rattle.bundle.specs.Check.{outside, headStop, tableStop, rowsStop, bundleStop, badId, meanSame, mix}
 use Rattle.bundle.specs.Accepted.{Framed, Meant, Sound, Accepted}
 use Rattle.bundle.proofs.CheckLaws.{rowFits, inside}
 
+pub counted : (s : List ℕ) → headStop s .number ≡ 0 → (32 ≤ length s) × (count s ≤ 64)
+unfolding headStop
+counted s e = let o = or-neither _ _ (stopIf-no 2 _ (⨾-right _ _ (⨾-right _ _ e))) in (ltb-false _ _ (o .0), ltb-false _ _ (o .1))
+
 pub framed : (s : List ℕ) → headStop s .number ≡ 0 → tableStop s .number ≡ 0 → Framed s
 unfolding headStop tableStop
-framed s e t =
-    let e₂ = ⨾-right _ _ e in
-    let o = or-neither _ _ (stopIf-no 2 _ (⨾-right _ _ e₂)) in
-    record {
-      fits = ltb-false _ _ (stopIf-no 0 _ (⨾-left _ _ e));
-      magical = same-true _ _ (not-no _ (stopIf-no 1 _ (⨾-left _ _ e₂)));
-      long = ltb-false _ _ (o .0);
-      few = ltb-false _ _ (o .1);
-      rows = λ i h. rowFits s (rowStart s i) .0 (stopAt-no 3 _ _ t i h);
-    }
+framed s e t = record {
+  fits = ltb-false _ _ (stopIf-no 0 _ (⨾-left _ _ e));
+  magical = same-true _ _ (not-no _ (stopIf-no 1 _ (⨾-left _ _ (⨾-right _ _ e))));
+  long = counted s e .0;
+  few = counted s e .1;
+  rows = λ i h. rowFits s (rowStart s i) .0 (stopAt-no 3 _ _ t i h);
+}
 
 pub head-go : (s : List ℕ) → Framed s → headStop s ≡ go
 unfolding headStop

@@ -6,3 +6,7 @@ pub mod PickLaws
 pub mod TableLaws
 pub mod Theorems
 pub mod RowLaws
+pub mod SlotLaws
+pub mod StageLaws
+pub mod ChoiceLaws
+pub mod IdLaws

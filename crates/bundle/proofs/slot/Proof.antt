@@ -7,6 +7,7 @@ use native.Mathlib.Omega.{arith}
 use mathlib.Core.Path.{_≡_, refl, sym, ap, _∙_}
 use Prim.Native.Nat.{_+_, _*_, _-_}
 use lib.ListN.{getD, take, drop}
+use Rattle.bundle.specs.Code.{text}
 
 -- src/lib.rt:177:13
 mul-a : tie.Need-mul-a
@@ -38,6 +39,7 @@ part-result-end c = search needs
 
 -- src/lib.rt:173:1
 returns : tie.Need-returns
+unfolding text
 returns c =     let a = c .before .before .args in
     let n = getD (a .lens .now) (a .k) 0 in
     let e : a .k * 256 + n - a .k * 256 ≡ n = omega arith in
