@@ -14,7 +14,7 @@ use Rattle.bundle.specs.Table.{count, row, rowAt}
 use Rattle.bundle.specs.Check.{bundleStop}
 use Rattle.bundle.specs.Pick.{compatibleAt, pick}
 use Rattle.bundle.specs.Accepted.{Accepted}
-use Rattle.bundle.specs.Theorems.{refusal, imageAt, Asked}
+use Rattle.bundle.specs.Theorems.{refusal, Asked}
 use Rattle.bundle.specs.Code.{noRow, heldRow, text, Room, Texts, Examination}
 use Rattle.bundle.specs.declared.Row.{Row}
 use Rattle.bundle.specs.declared.Picked.{Picked}

@@ -1,20 +1,19 @@
 -- Laws of canonical IDs in slots of 256 bytes. Assumes nothing.
-use Prim.Native.Nat.{ℕ, zero, suc, _+_, _*_, _≤_, _<_}
+use Prim.Native.Nat.{ℕ, _+_, _*_, _≤_, _<_}
 use native.Mathlib.Omega.{arith}
 use mathlib.Core.Path.{_≡_, refl, sym, ap, ap₂, _∙_}
-use mathlib.Core.Bool.{Bool, true, false}
+use mathlib.Core.Bool.{true, false}
 use mathlib.Core.List.{List, [], _∷_, _++_, append-assoc}
 use borrow.Author.Count.{below-more}
 use lib.ListN.{length, getD, take, drop, set, take-append-drop, length-drop}
 use lib.Seq.{drop-drop, drop-append-le, take-append-le, drop-at, take-at, length-take-le, getD-set-same, getD-set-other}
 use Rattle.wire.specs.Bytes.{empty, overwrite}
-use Rattle.wire.specs.First.{first}
-use Rattle.wire.proofs.FirstLaws.{first-is, first-none, first-before}
+use Rattle.wire.proofs.FirstLaws.{first-before}
 use Rattle.wire.proofs.OverwriteLaws.{overwrite-in}
 use Rattle.entry_id.specs.IdRules.{IdRules, Lawful}
 use Rattle.bundle.specs.Table.{row}
 use Rattle.bundle.specs.Check.{badId}
-use Rattle.bundle.specs.Code.{text, Canonical, Texts, Held, Named, Room}
+use Rattle.bundle.specs.Code.{text, Texts, Held, Named, Room}
 
 pub length-empty : (l : List ℕ) → length l ≡ 0 → empty l ≡ true
 unfolding empty

@@ -1,6 +1,6 @@
 // The check of a bundle, and the pick of the image for a device name.
 ghost use mathlib.Core.Path.{_≡_};
-ghost use Prim.Native.Nat.{ℕ, _+_, _*_, _<_, _≤_};
+ghost use Prim.Native.Nat.{_+_, _*_, _<_, _≤_};
 ghost use lib.ListN.{length, getD, take, drop};
 ghost use Rattle.wire.specs.Bytes.{same, overwrite};
 ghost use Rattle.wire.specs.First.{first};
@@ -273,7 +273,14 @@ fn first_related(twice: bool, texts: &[u8], lens: &[usize], n: usize) -> usize
 }
 
 // 5 to 8: the first that refuses n rows, in a container whose table ends at `end`; else 0.
-fn judge(s: &[u8], rows: [Row; 64], n: usize, end: usize, texts: &mut [u8], lens: &mut [usize]) -> Refusal
+fn judge(
+    s: &[u8],
+    rows: [Row; 64],
+    n: usize,
+    end: usize,
+    texts: &mut [u8],
+    lens: &mut [usize],
+) -> Refusal
     requires { ⌜ Rows (now s) n rows × Room (now texts) (now lens) ⌝ }
     ensures { λ r. ⌜ Judged idRules (rowsStop idRules end (length (now (s .entry))) n (row (now (s .entry)))) (now (s .entry)) n (now (texts .exit)) (now (lens .exit)) (r .number) (r .place) ⌝ }
 {

@@ -1,61 +1,45 @@
 use borrow.Author.Needs.{needs}
 use Rattle.bundle.proofs.canonical_at.Statement.{statement}
 use Rattle.bundle.proofs.canonical_at.Tie as tie
-use Rattle.bundle.proofs.canonical_at.Reads as reads
-use Rattle.bundle.proofs.canonical_at.Lts as lts
-use Rattle.entry_id.proofs.canonical.Reads as canonical-reads
-use mathlib.Core.Path.{_≡_, refl, sym, ap, _∙_}
 use native.Mathlib.Omega.{arith}
-use Prim.Native.Nat.{ℕ, _+_, _*_, _-_, _≤_, _<_}
+use Prim.Native.Nat.{_+_, _*_, _-_}
 use Rattle.bundle.proofs.IdLaws.{made-slot}
 
--- src/lib.rt:178:16
 mul-from : tie.Need-mul-from
 mul-from c = search needs
 
--- src/lib.rt:179:35
 add-canonical : tie.Need-add-canonical
 add-canonical c = search needs
 
--- src/lib.rt:179:25
 sub-canonical : tie.Need-sub-canonical
 sub-canonical c = search needs
 
--- src/lib.rt:179:25
 part-canonical-start : tie.Need-part-canonical-start
 part-canonical-start c = search needs
 
--- src/lib.rt:179:25
 part-canonical-end : tie.Need-part-canonical-end
 part-canonical-end c = search needs
 
--- src/lib.rt:179:66
 add-canonical-2 : tie.Need-add-canonical-2
 add-canonical-2 c = search needs
 
--- src/lib.rt:179:49
 sub-canonical-2 : tie.Need-sub-canonical-2
 sub-canonical-2 c = search needs
 
--- src/lib.rt:179:49
 part-canonical-start-2 : tie.Need-part-canonical-start-2
 part-canonical-start-2 c = search needs
 
--- src/lib.rt:179:49
 part-canonical-end-2 : tie.Need-part-canonical-end-2
 part-canonical-end-2 c = search needs
 
--- src/lib.rt:179:5
 canonical-requires : tie.Need-canonical-requires
 canonical-requires c κs = search needs
 
--- src/lib.rt:174:1
 same-length : tie.Need-same-length
 same-length c = search needs
 
--- src/lib.rt:174:1
 returns : tie.Need-returns
-returns c =     let a = c .before .before .before .before .before .before .before .args in
+returns c = let a = c .before .before .before .before .before .before .before .args in
     let m = c .before .before .canonical in
     made-slot (a .s .now) (a .texts .now) (m .last .1 .0) (a .start) (a .len) (a .start + a .len - a .start) (a .i) (a .i * 256 + 256 - a .i * 256) (m .result) (omega arith) (omega arith) (omega arith) (record { size = m .ensures .0; text = m .ensures .1 })
 

@@ -1,19 +1,15 @@
 use Rattle.bundle.proofs.canonicals.Statement.{statement}
 use Rattle.bundle.proofs.canonicals.Tie as tie
-use Rattle.bundle.proofs.canonicals.Reads as reads
-use Rattle.bundle.proofs.canonicals.Lts as lts
-use Rattle.bundle.proofs.canonical_at.Reads as canonical-at-reads
-use mathlib.Core.Path.{_≡_, refl, sym, ap, ap₂, _∙_}
+use mathlib.Core.Path.{_≡_, sym, _∙_}
 use native.Mathlib.Omega.{arith}
-use Prim.Native.Nat.{ℕ, _+_, _*_, _-_, _≤_, _<_}
+use Prim.Native.Nat.{ℕ, _-_, _≤_, _<_}
 use borrow.Author.Needs.{needs}
 use borrow.Author.Count.{below-more, below-none}
 use mathlib.Core.Bool.{false}
-use lib.ListN.{length, getD, take, drop, set, length-set}
-use Rattle.wire.specs.Bytes.{overwrite}
+use lib.ListN.{getD, take, drop, length-set}
 use Rattle.wire.proofs.FirstLaws.{first-is, first-none}
 use Rattle.entry_id.specs.Rules.{idRules}
-use Rattle.entry_id.proofs.RuleLaws.{lawful}
+use Rattle.entry_id.proofs.RuleLaws.{idRules-lawful}
 use Rattle.bundle.specs.Table.{rowStart, row}
 use Rattle.bundle.specs.Check.{badId}
 use Rattle.bundle.specs.Code.{noRow, Room, Held}
@@ -26,35 +22,28 @@ Inv-loop s n texts₀ lens₀ rows i₀ texts lens i = (i ≤ n) × Room texts l
 abbrev μ-loop : tie.MeasureT-loop
 μ-loop s n texts₀ lens₀ rows i₀ texts lens i = n - i
 
--- src/lib.rt:188:5
 loop-holds : tie.Need-loop-holds Inv-loop μ-loop
 loop-holds c = (omega arith, c .before .before .before .pre .1, below-none _, below-none _)
 
--- src/lib.rt:189:19
 mul-row : tie.Need-mul-row Inv-loop μ-loop
 mul-row c = search needs
 
--- src/lib.rt:189:19
 array-copy-out-row : tie.Need-array-copy-out-row Inv-loop μ-loop
 array-copy-out-row c = search needs
 
--- src/lib.rt:190:13
 canonical-at-requires : tie.Need-canonical-at-requires Inv-loop μ-loop
-canonical-at-requires c κs =     let l = c .before .before .before .loop in
+canonical-at-requires c κs = let l = c .before .before .before .loop in
     let s = c .before .before .before .before .before .before .before .args .s .now in
     (row-inside s (rowStart s (l .i)) _ (c .before .before .before .before .before .before .before .pre .0 .each (l .i) (omega arith)) (c .before .before .before .before .before .before .before .pre .0 .fits (l .i) (omega arith)), omega (arith, l .inv .1 .texts-room, c .before .before .before .before .before .before .before .pre .0 .few))
 
--- src/lib.rt:192:13
 same-length : tie.Need-same-length Inv-loop μ-loop
 same-length c = search needs
 
--- src/lib.rt:192:13
 same-length-2 : tie.Need-same-length-2 Inv-loop μ-loop
 same-length-2 c = search needs
 
--- src/lib.rt:192:13
 returns : tie.Need-returns Inv-loop μ-loop
-returns c =     let l = c .before .before .before .before .before .before .before .loop in
+returns c = let l = c .before .before .before .before .before .before .before .loop in
     let s = c .before .before .before .before .before .before .before .before .before .before .before .args .s .now in
     let d = getD (c .before .before .before .before .before .before .before .before .before .before .before .args .t2) (l .i) noRow in
     let m = c .before .before .before .canonical-at in
@@ -63,53 +52,45 @@ returns c =     let l = c .before .before .before .before .before .before .befor
     let e = row-id s (l .i) d (c .before .before .before .before .before .before .before .before .before .before .before .pre .0 .each (l .i) (omega arith)) in
     let k : l .i < 64 = omega (arith, c .before .before .before .before .before .before .before .before .before .before .before .pre .0 .few) in
     record {
-      bad-is = sym (first-is _ _ (l .i) (omega arith) (bad-here idRules lawful s id (l .texts) after (l .lens) (l .i) (m .result) k (l .inv .1) e (m .ensures .0) (m .ensures .1) (c .if1 .taken)) (l .inv .3));
+      bad-is = sym (first-is _ _ (l .i) (omega arith) (bad-here idRules idRules-lawful s id (l .texts) after (l .lens) (l .i) (m .result) k (l .inv .1) e (m .ensures .0) (m .ensures .1) (c .if1 .taken)) (l .inv .3));
       held = λ q. absurd (omega arith);
     }
 
--- src/lib.rt:194:9
 mul-lens : tie.Need-mul-lens Inv-loop μ-loop
 mul-lens c = search needs
 
--- src/lib.rt:194:9
 slice-write-lens : tie.Need-slice-write-lens Inv-loop μ-loop
 slice-write-lens c = search needs
 
--- src/lib.rt:195:9
 add-i : tie.Need-add-i Inv-loop μ-loop
 add-i c = search needs
 
--- src/lib.rt:188:5
 loop-less : tie.Need-loop-less Inv-loop μ-loop
 loop-less c = search needs
 
--- src/lib.rt:188:5
 loop-again : tie.Need-loop-again Inv-loop μ-loop
-loop-again c =     let l = c .before .before .before .before .before .before .before .loop in
+loop-again c = let l = c .before .before .before .before .before .before .before .loop in
     let s = c .before .before .before .before .before .before .before .before .before .before .before .args .s .now in
     let d = getD (c .before .before .before .before .before .before .before .before .before .before .before .args .t2) (l .i) noRow in
     let m = c .before .before .before .canonical-at in
     let after = m .last .1 .1 .1 .0 in
     let id = take (d .len) (drop (d .id) s) in
     let e = row-id s (l .i) d (c .before .before .before .before .before .before .before .before .before .before .before .pre .0 .each (l .i) (omega arith)) in
-    let k : l .i < 64 = omega (arith, c .before .before .before .before .before .before .before .before .before .before .before .pre .0 .few) in(
+    let k : l .i < 64 = omega (arith, c .before .before .before .before .before .before .before .before .before .before .before .pre .0 .few) in (
       omega arith,
       record { texts-room = omega (arith, m .kept .1 .1 .1 .0, l .inv .1 .texts-room); lens-room = simp length-set (l .inv .1 .lens-room) },
-      held-more idRules lawful s id (l .texts) after (l .lens) (l .i) (m .result) k (l .inv .1) e (m .ensures .0) (m .ensures .1) (l .inv .2),
-      below-more _ (l .i) (l .inv .3) (fine-here idRules lawful s id (l .texts) after (l .lens) (l .i) (m .result) k (l .inv .1) e (m .ensures .0) (m .ensures .1) (c .if1 .left)),
+      held-more idRules idRules-lawful s id (l .texts) after (l .lens) (l .i) (m .result) k (l .inv .1) e (m .ensures .0) (m .ensures .1) (l .inv .2),
+      below-more _ (l .i) (l .inv .3) (fine-here idRules idRules-lawful s id (l .texts) after (l .lens) (l .i) (m .result) k (l .inv .1) e (m .ensures .0) (m .ensures .1) (c .if1 .left)),
     )
 
--- src/lib.rt:183:1
 same-length-3 : tie.Need-same-length-3 Inv-loop μ-loop
 same-length-3 c = search needs
 
--- src/lib.rt:183:1
 same-length-4 : tie.Need-same-length-4 Inv-loop μ-loop
 same-length-4 c = search needs
 
--- src/lib.rt:183:1
 returns-2 : tie.Need-returns-2 Inv-loop μ-loop
-returns-2 c =     let l = c .before .loop in
+returns-2 c = let l = c .before .loop in
     let e : l .i ≡ c .before .before .before .before .before .args .n = omega arith in
     record {
       bad-is = e ∙ sym (first-none _ _ (λ k h. l .inv .3 k (omega arith)));

@@ -1,14 +1,11 @@
 use Rattle.bundle.proofs.earlier_related.Statement.{statement}
 use Rattle.bundle.proofs.earlier_related.Tie as tie
-use Rattle.bundle.proofs.earlier_related.Reads as reads
-use Rattle.bundle.proofs.earlier_related.Lts as lts
-use Rattle.bundle.proofs.related.Reads as related-reads
-use mathlib.Core.Path.{_≡_, refl, sym, ap, ap₂, _∙_}
+use mathlib.Core.Path.{_≡_, sym, _∙_}
 use native.Mathlib.Omega.{arith}
-use Prim.Native.Nat.{ℕ, _+_, _*_, _-_, _≤_, _<_}
+use Prim.Native.Nat.{ℕ, _-_, _≤_, _<_}
 use borrow.Author.Needs.{needs}
 use borrow.Author.Count.{below-more, below-none}
-use mathlib.Core.Bool.{true, false}
+use mathlib.Core.Bool.{false}
 use Rattle.entry_id.specs.Rules.{idRules}
 use Rattle.bundle.specs.Code.{text, relation}
 use Rattle.wire.specs.Stop.{earlier}
@@ -21,35 +18,28 @@ Inv-loop twice texts lens i j₀ j = (j ≤ i) × ((k : ℕ) → k < j → relat
 abbrev μ-loop : tie.MeasureT-loop
 μ-loop twice texts lens i j₀ j = i - j
 
--- src/lib.rt:229:5
 loop-holds : tie.Need-loop-holds Inv-loop μ-loop
 loop-holds c = (omega arith, below-none _)
 
--- src/lib.rt:230:12
 related-requires : tie.Need-related-requires Inv-loop μ-loop
 related-requires c κs = search needs
 
--- src/lib.rt:231:13
 returns : tie.Need-returns Inv-loop μ-loop
 unfolding earlier
 returns c = sym (any-some _ _ (c .before .before .before .loop .j) (omega arith) (sym (c .before .related .ensures) ∙ c .if1 .taken))
 
--- src/lib.rt:233:9
 add-j : tie.Need-add-j Inv-loop μ-loop
 add-j c = search needs
 
--- src/lib.rt:229:5
 loop-less : tie.Need-loop-less Inv-loop μ-loop
 loop-less c = search needs
 
--- src/lib.rt:229:5
 loop-again : tie.Need-loop-again Inv-loop μ-loop
-loop-again c =     let l = c .before .before .before .loop in
+loop-again c = let l = c .before .before .before .loop in
     (omega arith, below-more _ (l .j) (l .inv .1) (sym (c .before .related .ensures) ∙ c .if1 .left))
 
--- src/lib.rt:224:1
 returns-2 : tie.Need-returns-2 Inv-loop μ-loop
-returns-2 c =     let l = c .before .loop in
+returns-2 c = let l = c .before .loop in
     let a = c .before .before .before .before .args in
     sym (earlier-none (relation idRules (a .twice)) (text (a .texts .now) (a .lens .now)) (a .i) (λ k h. l .inv .1 k (omega arith)))
 

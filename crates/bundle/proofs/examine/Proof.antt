@@ -1,13 +1,6 @@
 use borrow.Author.Needs.{needs}
 use Rattle.bundle.proofs.examine.Statement.{statement}
 use Rattle.bundle.proofs.examine.Tie as tie
-use Rattle.bundle.proofs.examine.Reads as reads
-use Rattle.bundle.proofs.examine.Lts as lts
-use Rattle.bundle.proofs.head.Reads as head-reads
-use Rattle.bundle.proofs.judge.Reads as judge-reads
-use Rattle.bundle.proofs.no_rows.Reads as no-rows-reads
-use Rattle.bundle.proofs.read_table.Reads as read-table-reads
-use Rattle.wire.proofs.word8_at.Reads as word8-at-reads
 use native.Mathlib.Omega.{arith}
 use mathlib.Core.Path.{ap, sym, _∙_}
 use Rattle.entry_id.specs.Rules.{idRules}
@@ -16,59 +9,46 @@ use Rattle.bundle.proofs.RowLaws.{rows-all}
 use Rattle.bundle.proofs.AcceptLaws.{counted}
 use Rattle.bundle.proofs.StageLaws.{examined-head, examined-table, examined-rows, examined-all}
 
--- src/lib.rt:317:9
 head-requires : tie.Need-head-requires
 head-requires c κs = search needs
 
--- src/lib.rt:323:19
 no-rows-requires : tie.Need-no-rows-requires
 no-rows-requires c κs = search needs
 
--- src/lib.rt:319:9
 returns : tie.Need-returns
 returns c = examined-head idRules _ _ _ _ _ (c .before .before .head .ensures) (c .before .if1 .taken)
 
--- src/lib.rt:326:13
 word8-at-requires : tie.Need-word8-at-requires
 word8-at-requires c κs = search needs
 
--- src/lib.rt:327:9
 read-table-requires : tie.Need-read-table-requires
 unfolding count
-read-table-requires c κs =     let h = counted (c .before .before .before .before .before .before .args .s .now) (ap (λ z. z .number) (sym (c .before .before .head .ensures)) ∙ omega arith) in
+read-table-requires c κs = let h = counted (c .before .before .before .before .before .before .args .s .now) (ap (λ z. z .number) (sym (c .before .before .head .ensures)) ∙ omega arith) in
     (h .0, omega (arith, h .1, c .word8-at .ensures))
 
--- src/lib.rt:331:9
 returns-2 : tie.Need-returns-2
 unfolding count
 returns-2 c = examined-table idRules _ _ _ _ _ _ _ _ (c .before .before .before .before .before .head .ensures) (omega arith) (c .before .before .before .word8-at .ensures) (c .before .before .read-table .ensures) (c .if2 .taken)
 
--- src/lib.rt:338:9
 judge-requires : tie.Need-judge-requires
 judge-requires c κs = (rows-all _ _ _ _ _ (c .before .before .before .before .read-table .ensures) (c .before .before .if2 .left), c .before .before .before .before .before .before .before .before .before .before .before .pre)
 
--- src/lib.rt:313:1
 same-length : tie.Need-same-length
 same-length c = search needs
 
--- src/lib.rt:313:1
 same-length-2 : tie.Need-same-length-2
 same-length-2 c = search needs
 
--- src/lib.rt:313:1
 returns-3 : tie.Need-returns-3
 unfolding count
 returns-3 c = examined-rows idRules _ _ _ _ _ _ _ _ (c .before .before .before .before .before .before .before .before .before .before .before .before .before .head .ensures) (omega arith) (c .before .before .before .before .before .before .before .before .before .before .before .word8-at .ensures) (c .before .before .before .before .before .before .before .before .before .before .read-table .ensures) (c .before .before .before .before .before .before .before .before .if2 .left) _ _ (c .before .before .before .before .before .judge .ensures) (c .if3 .taken)
 
--- src/lib.rt:313:1
 same-length-3 : tie.Need-same-length-3
 same-length-3 c = search needs
 
--- src/lib.rt:313:1
 same-length-4 : tie.Need-same-length-4
 same-length-4 c = search needs
 
--- src/lib.rt:313:1
 returns-4 : tie.Need-returns-4
 unfolding count
 returns-4 c = examined-all idRules _ _ _ _ _ _ _ _ (c .before .before .before .before .before .before .before .before .before .before .before .before .before .head .ensures) (omega arith) (c .before .before .before .before .before .before .before .before .before .before .before .word8-at .ensures) (c .before .before .before .before .before .before .before .before .before .before .read-table .ensures) (c .before .before .before .before .before .before .before .before .if2 .left) _ _ (c .before .before .before .before .before .judge .ensures) (omega arith)

@@ -1,14 +1,11 @@
 use Rattle.bundle.proofs.first_compatible.Statement.{statement}
 use Rattle.bundle.proofs.first_compatible.Tie as tie
-use Rattle.bundle.proofs.first_compatible.Reads as reads
-use Rattle.bundle.proofs.first_compatible.Lts as lts
-use Rattle.bundle.proofs.compatible_at.Reads as compatible-at-reads
-use mathlib.Core.Path.{_≡_, refl, sym, ap, ap₂, _∙_}
+use mathlib.Core.Path.{_≡_, sym, _∙_}
 use native.Mathlib.Omega.{arith}
-use Prim.Native.Nat.{ℕ, _+_, _*_, _-_, _≤_, _<_}
+use Prim.Native.Nat.{ℕ, _-_, _≤_, _<_}
 use borrow.Author.Needs.{needs}
 use borrow.Author.Count.{below-more, below-none}
-use mathlib.Core.Bool.{true, false}
+use mathlib.Core.Bool.{false}
 use Rattle.entry_id.specs.Rules.{idRules}
 use Rattle.bundle.specs.Code.{text}
 use Rattle.wire.proofs.FirstLaws.{first-is, first-none}
@@ -20,36 +17,29 @@ Inv-loop texts lens n name k₀ k = (k ≤ n) × ((j : ℕ) → j < k → idRule
 abbrev μ-loop : tie.MeasureT-loop
 μ-loop texts lens n name k₀ k = n - k
 
--- src/lib.rt:389:5
 loop-holds : tie.Need-loop-holds Inv-loop μ-loop
 loop-holds c = (omega arith, below-none _)
 
--- src/lib.rt:390:12
 compatible-at-requires : tie.Need-compatible-at-requires Inv-loop μ-loop
-compatible-at-requires c κs =     let p = c .before .before .before .before .before .pre in
+compatible-at-requires c κs = let p = c .before .before .before .before .before .pre in
     (fewer _ _ _ _ _ (p .0) (omega arith), p .1)
 
--- src/lib.rt:391:13
 returns : tie.Need-returns Inv-loop μ-loop
-returns c =     let l = c .before .before .before .loop in
+returns c = let l = c .before .before .before .loop in
     sym (first-is _ _ (l .k) (omega arith) (sym (c .before .compatible-at .ensures) ∙ c .if1 .taken) (l .inv .1))
 
--- src/lib.rt:393:9
 add-k : tie.Need-add-k Inv-loop μ-loop
 add-k c = search needs
 
--- src/lib.rt:389:5
 loop-less : tie.Need-loop-less Inv-loop μ-loop
 loop-less c = search needs
 
--- src/lib.rt:389:5
 loop-again : tie.Need-loop-again Inv-loop μ-loop
-loop-again c =     let l = c .before .before .before .loop in
+loop-again c = let l = c .before .before .before .loop in
     (omega arith, below-more _ (l .k) (l .inv .1) (sym (c .before .compatible-at .ensures) ∙ c .if1 .left))
 
--- src/lib.rt:384:1
 returns-2 : tie.Need-returns-2 Inv-loop μ-loop
-returns-2 c =     let l = c .before .loop in
+returns-2 c = let l = c .before .loop in
     let e : l .k ≡ c .before .before .before .before .before .args .n = omega arith in
     e ∙ sym (first-none _ _ (λ k h. l .inv .1 k (omega arith)))
 

@@ -1,10 +1,7 @@
 use Rattle.bundle.proofs.first_outside.Statement.{statement}
 use Rattle.bundle.proofs.first_outside.Tie as tie
-use Rattle.bundle.proofs.first_outside.Reads as reads
-use Rattle.bundle.proofs.first_outside.Lts as lts
-use Rattle.bundle.proofs.outside_row.Reads as outside-row-reads
 use native.Mathlib.Omega.{arith}
-use mathlib.Core.Path.{_≡_, refl, sym, ap, _∙_}
+use mathlib.Core.Path.{_≡_, sym, _∙_}
 use Prim.Native.Nat.{ℕ, _-_, _≤_, _<_}
 use mathlib.Core.Bool.{false}
 use borrow.Author.Needs.{needs}
@@ -20,43 +17,34 @@ Inv-loop n end len rows i₀ i = (i ≤ n) × ((k : ℕ) → k < i → outside e
 abbrev μ-loop : tie.MeasureT-loop
 μ-loop n end len rows i₀ i = n - i
 
--- src/lib.rt:163:5
 loop-holds : tie.Need-loop-holds Inv-loop μ-loop
 loop-holds c = (omega arith, below-none _)
 
--- src/lib.rt:164:24
 mul-outside-row : tie.Need-mul-outside-row Inv-loop μ-loop
 mul-outside-row c = search needs
 
--- src/lib.rt:164:24
 array-copy-out-outside-row : tie.Need-array-copy-out-outside-row Inv-loop μ-loop
 array-copy-out-outside-row c = search needs
 
--- src/lib.rt:164:12
 outside-row-requires : tie.Need-outside-row-requires Inv-loop μ-loop
 outside-row-requires c κs = search needs
 
--- src/lib.rt:165:13
 returns : tie.Need-returns Inv-loop μ-loop
-returns c =     let l = c .before .before .before .before .loop in
+returns c = let l = c .before .before .before .before .loop in
     sym (first-is _ _ (l .i) (omega arith) (sym (c .before .outside-row .ensures) ∙ c .if1 .taken) (l .inv .1))
 
--- src/lib.rt:167:9
 add-i : tie.Need-add-i Inv-loop μ-loop
 add-i c = search needs
 
--- src/lib.rt:163:5
 loop-less : tie.Need-loop-less Inv-loop μ-loop
 loop-less c = search needs
 
--- src/lib.rt:163:5
 loop-again : tie.Need-loop-again Inv-loop μ-loop
-loop-again c =     let l = c .before .before .before .before .loop in
+loop-again c = let l = c .before .before .before .before .loop in
     (omega arith, below-more _ (l .i) (l .inv .1) (sym (c .before .outside-row .ensures) ∙ c .if1 .left))
 
--- src/lib.rt:158:1
 returns-2 : tie.Need-returns-2 Inv-loop μ-loop
-returns-2 c =     let l = c .before .loop in
+returns-2 c = let l = c .before .loop in
     let a = c .before .before .args in
     let e : l .i ≡ a .n = omega arith in
     e ∙ sym (first-none _ _ (λ k h. l .inv .1 k (omega arith)))

@@ -1,14 +1,11 @@
 use Rattle.bundle.proofs.first_related.Statement.{statement}
 use Rattle.bundle.proofs.first_related.Tie as tie
-use Rattle.bundle.proofs.first_related.Reads as reads
-use Rattle.bundle.proofs.first_related.Lts as lts
-use Rattle.bundle.proofs.earlier_related.Reads as earlier-related-reads
-use mathlib.Core.Path.{_≡_, refl, sym, ap, ap₂, _∙_}
+use mathlib.Core.Path.{_≡_, sym, _∙_}
 use native.Mathlib.Omega.{arith}
-use Prim.Native.Nat.{ℕ, _+_, _*_, _-_, _≤_, _<_}
+use Prim.Native.Nat.{ℕ, _-_, _≤_, _<_}
 use borrow.Author.Needs.{needs}
 use borrow.Author.Count.{below-more, below-none}
-use mathlib.Core.Bool.{true, false}
+use mathlib.Core.Bool.{false}
 use Rattle.entry_id.specs.Rules.{idRules}
 use Rattle.bundle.specs.Code.{text, relation}
 use Rattle.wire.specs.Stop.{earlier}
@@ -21,35 +18,28 @@ Inv-loop twice texts lens n i₀ i = (i ≤ n) × ((k : ℕ) → k < i → earli
 abbrev μ-loop : tie.MeasureT-loop
 μ-loop twice texts lens n i₀ i = n - i
 
--- src/lib.rt:244:5
 loop-holds : tie.Need-loop-holds Inv-loop μ-loop
 loop-holds c = (omega arith, below-none _)
 
--- src/lib.rt:245:12
 earlier-related-requires : tie.Need-earlier-related-requires Inv-loop μ-loop
 earlier-related-requires c κs = fewer _ _ _ _ _ (c .before .before .before .before .pre) (omega arith)
 
--- src/lib.rt:246:13
 returns : tie.Need-returns Inv-loop μ-loop
-returns c =     let l = c .before .before .before .loop in
+returns c = let l = c .before .before .before .loop in
     sym (first-is _ _ (l .i) (omega arith) (sym (c .before .earlier-related .ensures) ∙ c .if1 .taken) (l .inv .1))
 
--- src/lib.rt:248:9
 add-i : tie.Need-add-i Inv-loop μ-loop
 add-i c = search needs
 
--- src/lib.rt:244:5
 loop-less : tie.Need-loop-less Inv-loop μ-loop
 loop-less c = search needs
 
--- src/lib.rt:244:5
 loop-again : tie.Need-loop-again Inv-loop μ-loop
-loop-again c =     let l = c .before .before .before .loop in
+loop-again c = let l = c .before .before .before .loop in
     (omega arith, below-more _ (l .i) (l .inv .1) (sym (c .before .earlier-related .ensures) ∙ c .if1 .left))
 
--- src/lib.rt:239:1
 returns-2 : tie.Need-returns-2 Inv-loop μ-loop
-returns-2 c =     let l = c .before .loop in
+returns-2 c = let l = c .before .loop in
     let e : l .i ≡ c .before .before .before .before .args .n = omega arith in
     e ∙ sym (first-none _ _ (λ k h. l .inv .1 k (omega arith)))
 

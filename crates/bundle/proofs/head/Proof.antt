@@ -1,57 +1,44 @@
 use borrow.Author.Needs.{needs}
 use Rattle.bundle.proofs.head.Statement.{statement}
 use Rattle.bundle.proofs.head.Tie as tie
-use Rattle.bundle.proofs.head.Reads as reads
-use Rattle.bundle.proofs.head.Lts as lts
-use Rattle.bundle.proofs.magic_is.Reads as magic-is-reads
-use Rattle.wire.proofs.word8_at.Reads as word8-at-reads
 use native.Mathlib.Omega.{arith}
-use mathlib.Core.Path.{_≡_, refl, sym, ap, _∙_}
+use mathlib.Core.Path.{_≡_, refl, sym, _∙_}
 use borrow.Author.Tests.{lt-ltb, le-ltb}
 use mathlib.Core.Bool.{true, false}
 use lib.ListN.{length, take, length-take}
 use Rattle.wire.specs.Stop.{_⨾_, stopIf, stopWhen}
-use Rattle.wire.proofs.Bools.{not-no}
 use Rattle.wire.proofs.ByteLaws.{same-length}
 use Rattle.bundle.specs.Table.{magic, count}
 use Rattle.bundle.proofs.CheckLaws.{head-is}
 use borrow.Author.Tests.{not-true, not-false}
 
--- src/lib.rt:56:9
 returns : tie.Need-returns
 unfolding stopIf stopWhen _⨾_
 returns c = head-is _ true _ _ (lt-ltb _ _ (c .if1 .taken)) refl refl
 
--- src/lib.rt:59:9
 returns-2 : tie.Need-returns-2
 unfolding stopIf stopWhen _⨾_ magic
-returns-2 c =     let s = c .before .before .before .args .s .now in
+returns-2 c = let s = c .before .before .before .args .s .now in
     head-is s false false _ (le-ltb _ _ (c .before .if1 .left)) (same-length _ _ (λ (q : length (take 24 s) ≡ length magic). omega (arith, length-take 24 s))) refl
 
--- src/lib.rt:61:9
 magic-is-requires : tie.Need-magic-is-requires
 magic-is-requires c κs = search needs
 
--- src/lib.rt:62:9
 returns-3 : tie.Need-returns-3
 unfolding stopIf stopWhen _⨾_
 returns-3 c = head-is _ false false _ (le-ltb _ _ (c .before .before .before .if1 .left)) (sym (c .before .magic-is .ensures) ∙ not-true _ (c .if3 .taken)) refl
 
--- src/lib.rt:65:9
 returns-4 : tie.Need-returns-4
 unfolding stopIf stopWhen _⨾_
 returns-4 c = head-is _ false true true (le-ltb _ _ (c .before .before .before .before .if1 .left)) (sym (c .before .before .magic-is .ensures) ∙ not-false _ (c .before .if3 .left)) (rw (lt-ltb _ _ (c .if4 .taken)))
 
--- src/lib.rt:67:13
 word8-at-requires : tie.Need-word8-at-requires
 word8-at-requires c κs = search needs
 
--- src/lib.rt:68:9
 returns-5 : tie.Need-returns-5
 unfolding stopIf stopWhen _⨾_ count
 returns-5 c = head-is _ false true true (le-ltb _ _ (c .before .before .before .before .before .before .if1 .left)) (sym (c .before .before .before .before .magic-is .ensures) ∙ not-false _ (c .before .before .before .if3 .left)) (rw (le-ltb _ _ (c .before .before .if4 .left), lt-ltb _ _ (rw (c .before .word8-at .ensures) at (c .if5 .taken))))
 
--- src/lib.rt:52:1
 returns-6 : tie.Need-returns-6
 unfolding stopIf stopWhen _⨾_ count
 returns-6 c = head-is _ false true false (le-ltb _ _ (c .before .before .before .before .before .before .if1 .left)) (sym (c .before .before .before .before .magic-is .ensures) ∙ not-false _ (c .before .before .before .if3 .left)) (rw (le-ltb _ _ (c .before .before .if4 .left), le-ltb _ _ (rw (c .before .word8-at .ensures) at (c .if5 .left))))

@@ -1,10 +1,5 @@
 use Rattle.bundle.proofs.read_table.Statement.{statement}
 use Rattle.bundle.proofs.read_table.Tie as tie
-use Rattle.bundle.proofs.read_table.Reads as reads
-use Rattle.bundle.proofs.read_table.Lts as lts
-use Rattle.bundle.proofs.bad_row.Reads as bad-row-reads
-use Rattle.bundle.proofs.no_rows.Reads as no-rows-reads
-use Rattle.bundle.proofs.row_at.Reads as row-at-reads
 use native.Mathlib.Omega.{arith}
 use mathlib.Core.Path.{_≡_, refl}
 use Prim.Native.Nat.{_-_, _≤_}
@@ -21,52 +16,41 @@ Inv-loop s n rows₀ i₀ at₀ rows i at = (i ≤ n) × (at ≡ rowStart s i) �
 abbrev μ-loop : tie.MeasureT-loop
 μ-loop s n rows₀ i₀ at₀ rows i at = n - i
 
--- src/lib.rt:141:20
 no-rows-requires : tie.Need-no-rows-requires Inv-loop μ-loop
 no-rows-requires c κs = search needs
 
--- src/lib.rt:144:5
 loop-holds : tie.Need-loop-holds Inv-loop μ-loop
 unfolding rowStart
 loop-holds c = (omega arith, refl, omega arith, record { few = omega arith; room = c .no-rows .ensures; fits = below-none _; each = below-none _ })
 
--- src/lib.rt:145:12
 bad-row-requires : tie.Need-bad-row-requires Inv-loop μ-loop
 bad-row-requires c κs = search needs
 
--- src/lib.rt:146:13
 returns : tie.Need-returns Inv-loop μ-loop
-returns c =     let l = c .before .before .before .loop in
+returns c = let l = c .before .before .before .loop in
     tabled-bad _ (l .i) (l .at) (l .rows) (l .inv .1) (l .inv .3) _ 0 _ (omega arith) (c .before .bad-row .ensures) (c .if1 .taken)
 
--- src/lib.rt:152:13
 row-at-requires : tie.Need-row-at-requires Inv-loop μ-loop
 row-at-requires c κs = fine _ _ _ (c .before .bad-row .ensures) (c .if1 .left)
 
--- src/lib.rt:153:9
 mul-rows : tie.Need-mul-rows Inv-loop μ-loop
 mul-rows c = search needs
 
--- src/lib.rt:153:9
 array-set-from-rows : tie.Need-array-set-from-rows Inv-loop μ-loop
 array-set-from-rows c = search needs
 
--- src/lib.rt:154:14
 add-at : tie.Need-add-at Inv-loop μ-loop
-add-at c =     let f = fine _ _ _ (c .before .before .before .bad-row .ensures) (c .before .before .if1 .left) in
+add-at c = let f = fine _ _ _ (c .before .before .before .bad-row .ensures) (c .before .before .if1 .left) in
     omega (arith, row-inside _ _ (c .before .row-at .result) (c .before .row-at .ensures) f)
 
--- src/lib.rt:155:9
 add-i : tie.Need-add-i Inv-loop μ-loop
 add-i c = search needs
 
--- src/lib.rt:144:5
 loop-less : tie.Need-loop-less Inv-loop μ-loop
 loop-less c = search needs
 
--- src/lib.rt:144:5
 loop-again : tie.Need-loop-again Inv-loop μ-loop
-loop-again c =     let l = c .before .before .before .before .before .loop in
+loop-again c = let l = c .before .before .before .before .before .loop in
     let s = c .before .before .before .before .before .before .before .before .args .s .now in
     let r = c .before .row-at .result in
     let f = fine _ _ _ (c .before .before .before .bad-row .ensures) (c .before .before .if1 .left) in (
@@ -76,9 +60,8 @@ loop-again c =     let l = c .before .before .before .before .before .loop in
       rows-more s (l .i) (l .at) (l .rows) (l .inv .1) (l .inv .3) r (c .before .row-at .ensures) (omega arith) f,
     )
 
--- src/lib.rt:137:1
 returns-2 : tie.Need-returns-2 Inv-loop μ-loop
-returns-2 c =     let l = c .before .loop in
+returns-2 c = let l = c .before .loop in
     tabled-all _ (l .i) (l .at) (l .rows) (l .inv .1) (l .inv .3) _ (omega arith)
 
 pub read-table-spec : {M : Type 1} → statement M

@@ -1,46 +1,36 @@
 use borrow.Author.Needs.{needs}
 use Rattle.bundle.proofs.slot.Statement.{statement}
 use Rattle.bundle.proofs.slot.Tie as tie
-use Rattle.bundle.proofs.slot.Reads as reads
-use Rattle.bundle.proofs.slot.Lts as lts
 use native.Mathlib.Omega.{arith}
-use mathlib.Core.Path.{_≡_, refl, sym, ap, _∙_}
+use mathlib.Core.Path.{_≡_, ap}
 use Prim.Native.Nat.{_+_, _*_, _-_}
 use lib.ListN.{getD, take, drop}
 use Rattle.bundle.specs.Code.{text}
 
--- src/lib.rt:177:13
 mul-a : tie.Need-mul-a
 mul-a c = search needs
 
--- src/lib.rt:178:17
 mul-e : tie.Need-mul-e
 mul-e c = search needs
 
--- src/lib.rt:178:17
 shared-slice-read-e : tie.Need-shared-slice-read-e
 shared-slice-read-e c = search needs
 
--- src/lib.rt:178:13
 add-e : tie.Need-add-e
 add-e c = search needs
 
--- src/lib.rt:179:5
 sub-result : tie.Need-sub-result
 sub-result c = search needs
 
--- src/lib.rt:179:5
 part-result-start : tie.Need-part-result-start
 part-result-start c = search needs
 
--- src/lib.rt:179:5
 part-result-end : tie.Need-part-result-end
 part-result-end c = search needs
 
--- src/lib.rt:173:1
 returns : tie.Need-returns
 unfolding text
-returns c =     let a = c .before .before .args in
+returns c = let a = c .before .before .args in
     let n = getD (a .lens .now) (a .k) 0 in
     let e : a .k * 256 + n - a .k * 256 ≡ n = omega arith in
     ap (λ z. take z (drop (a .k * 256) (a .texts .now))) e
