@@ -10,3 +10,9 @@ pub mod SlotLaws
 pub mod StageLaws
 pub mod ChoiceLaws
 pub mod IdLaws
+pub mod LayoutLaws
+pub mod ReadBack
+pub mod PackLaws
+pub mod SameLaws
+pub mod NormalLaws
+pub mod Demand

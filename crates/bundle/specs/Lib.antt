@@ -5,4 +5,7 @@ pub mod Entry
 pub mod Pick
 pub mod Accepted
 pub mod Theorems
+pub mod Layout
+pub mod Normal
+pub mod Demand
 pub mod Code

@@ -29,6 +29,13 @@ pub struct Picked {
     pub size: u64,
 }
 
+// What a call that writes a bundle returns: the refusal's number and place, or 0, 0 and the length written.
+pub struct Written {
+    pub number: usize,
+    pub place: usize,
+    pub length: usize,
+}
+
 // A row of the table: where the image starts, its size, where the ID starts, its length.
 struct Row {
     offset: u64,
