@@ -2,12 +2,15 @@
 use Prim.Native.Nat.{ℕ, _+_, _*_, _≤_, _<_}
 use native.Mathlib.Omega.{arith}
 use mathlib.Core.Path.{_≡_, refl, sym, ap, ap₂, _∙_}
-use mathlib.Core.Bool.{true, false}
+use mathlib.Core.Bool.{Bool, true, false}
 use mathlib.Core.List.{List, [], _∷_, _++_, append-assoc}
 use borrow.Author.Count.{below-more}
+use borrow.Author.Tests.{lt-ltb, le-ltb}
 use lib.ListN.{length, getD, take, drop, set, take-append-drop, length-drop}
 use lib.Seq.{drop-drop, drop-append-le, take-append-le, drop-at, take-at, length-take-le, getD-set-same, getD-set-other}
 use Rattle.wire.specs.Bytes.{empty, overwrite}
+use Rattle.wire.specs.First.{first, anyBelow}
+use Rattle.wire.specs.Stop.{earlier}
 use Rattle.wire.proofs.FirstLaws.{first-before}
 use Rattle.wire.proofs.OverwriteLaws.{overwrite-in}
 use Rattle.entry_id.specs.IdRules.{IdRules, Lawful}
@@ -133,3 +136,13 @@ named-texts R L s n texts lens bad few room nd none =
 
 pub room-kept : (texts lens texts′ lens′ : List ℕ) → Room texts lens → length texts′ ≡ length texts → length lens′ ≡ length lens → Room texts′ lens′
 room-kept texts lens texts′ lens′ r p q = record { texts-room = p ∙ r .texts-room; lens-room = q ∙ r .lens-room }
+
+-- an earlier slot was looked for: r is the first, or i
+module _ {A : Type 0} (related : A → A → Bool) (f : ℕ → A) (i r : ℕ) (e : r ≡ first i (λ j. related (f j) (f i))) where
+  pub earlier-found : r < i → earlier related f i ≡ true
+  unfolding earlier anyBelow
+  earlier-found h = rw (← e) (lt-ltb r i h)
+
+  pub earlier-clear : i ≤ r → earlier related f i ≡ false
+  unfolding earlier anyBelow
+  earlier-clear h = rw (← e) (le-ltb r i h)

@@ -249,19 +249,19 @@ fn related(twice: bool, texts: &[u8], lens: &[usize], j: usize, i: usize) -> boo
     entry_id::mixed(a, b)
 }
 
-// An earlier slot's text stands in the relation to that of slot i.
-fn earlier_related(twice: bool, texts: &[u8], lens: &[usize], i: usize) -> bool
+// The first slot before i whose text stands in the relation to that of slot i, or i.
+fn related_before(twice: bool, texts: &[u8], lens: &[usize], i: usize) -> usize
     requires { ⌜ Texts idRules (now texts) (now lens) (i + 1) ⌝ }
-    ensures { λ r. ⌜ r ≡ earlier (relation idRules twice) (text (now (texts .entry)) (now (lens .entry))) i ⌝ }
+    ensures { λ r. ⌜ r ≡ first i (λ j. relation idRules twice (text (now (texts .entry)) (now (lens .entry)) j) (text (now (texts .entry)) (now (lens .entry)) i)) ⌝ }
 {
     let mut j: usize = 0;
     while j < i {
         if related(twice, texts, lens, j, i) {
-            return true;
+            return j;
         }
         j += 1;
     }
-    false
+    j
 }
 
 // 7 TWICE or 8 MIXED: the first of n slots to whose text an earlier one stands in the relation, or n.
@@ -269,14 +269,15 @@ fn first_related(twice: bool, texts: &[u8], lens: &[usize], n: usize) -> usize
     requires { ⌜ Texts idRules (now texts) (now lens) n ⌝ }
     ensures { λ r. ⌜ r ≡ first n (earlier (relation idRules twice) (text (now (texts .entry)) (now (lens .entry)))) ⌝ }
 {
-    let mut i: usize = 0;
-    while i < n {
-        if earlier_related(twice, texts, lens, i) {
-            return i;
+    let mut later: usize = 0;
+    while later < n {
+        let found = related_before(twice, texts, lens, later);
+        if found < later {
+            return later;
         }
-        i += 1;
+        later += 1;
     }
-    i
+    later
 }
 
 // 5 to 8: the first that refuses n rows, in a container whose table ends at `end`; else 0.
@@ -291,14 +292,14 @@ fn judge(
     requires { ⌜ Rows (now s) n rows × Room (now texts) (now lens) ⌝ }
     ensures { λ r. ⌜ Judged idRules (rowsStop idRules end (length (now (s .entry))) n (row (now (s .entry)))) (now (s .entry)) n (now (texts .exit)) (now (lens .exit)) (r .number) (r .place) ⌝ }
 {
-    let bad = canonicals(s, rows, n, texts, lens);
-    if bad < n {
+    let bad_id = canonicals(s, rows, n, texts, lens);
+    let out = first_outside(rows, n, end as u64, s.len() as u64);
+    if bad_id < n {
         return Refusal {
             number: 5,
-            place: bad,
+            place: bad_id,
         };
     }
-    let out = first_outside(rows, n, end as u64, s.len() as u64);
     if out < n {
         return Refusal {
             number: 6,

@@ -11,6 +11,7 @@ use Rattle.wire.proofs.ByteLaws.{same-length}
 use Rattle.bundle.specs.Table.{magic, count}
 use Rattle.bundle.proofs.CheckLaws.{head-is}
 use borrow.Author.Tests.{not-true, not-false}
+use Prim.Native.Nat.{_<_, _≤_}
 
 returns : tie.Need-returns
 unfolding stopIf stopWhen _⨾_
@@ -37,11 +38,17 @@ word8-at-requires c κs = search needs
 
 returns-5 : tie.Need-returns-5
 unfolding stopIf stopWhen _⨾_ count
-returns-5 c = head-is _ false true true (le-ltb _ _ (c .before .before .before .before .before .before .if1 .left)) (sym (c .before .before .before .before .magic-is .ensures) ∙ not-false _ (c .before .before .before .if3 .left)) (rw (le-ltb _ _ (c .before .before .if4 .left), lt-ltb _ _ (rw (c .before .word8-at .ensures) at (c .if5 .taken))))
+returns-5 c = let s = c .before .before .before .before .before .before .before .before .args .s .now in
+    let magical = sym (c .before .before .before .before .magic-is .ensures) ∙ not-false _ (c .before .before .before .if3 .left) in
+    let n : 64 < count s = omega (arith, c .before .word8-at .ensures) in
+    head-is s false true true (le-ltb _ _ (c .before .before .before .before .before .before .if1 .left)) magical (rw (le-ltb _ _ (c .before .before .if4 .left), lt-ltb _ _ n))
 
 returns-6 : tie.Need-returns-6
 unfolding stopIf stopWhen _⨾_ count
-returns-6 c = head-is _ false true false (le-ltb _ _ (c .before .before .before .before .before .before .if1 .left)) (sym (c .before .before .before .before .magic-is .ensures) ∙ not-false _ (c .before .before .before .if3 .left)) (rw (le-ltb _ _ (c .before .before .if4 .left), le-ltb _ _ (rw (c .before .word8-at .ensures) at (c .if5 .left))))
+returns-6 c = let s = c .before .before .before .before .before .before .before .before .args .s .now in
+    let magical = sym (c .before .before .before .before .magic-is .ensures) ∙ not-false _ (c .before .before .before .if3 .left) in
+    let n : count s ≤ 64 = omega (arith, c .before .word8-at .ensures) in
+    head-is s false true false (le-ltb _ _ (c .before .before .before .before .before .before .if1 .left)) magical (rw (le-ltb _ _ (c .before .before .if4 .left), le-ltb _ _ n))
 
 pub head-spec : {M : Type 1} → statement M
 head-spec =

@@ -1,5 +1,5 @@
-use Rattle.bundle.proofs.earlier_related.Statement.{statement}
-use Rattle.bundle.proofs.earlier_related.Tie as tie
+use Rattle.bundle.proofs.related_before.Statement.{statement}
+use Rattle.bundle.proofs.related_before.Tie as tie
 use mathlib.Core.Path.{_≡_, sym, _∙_}
 use native.Mathlib.Omega.{arith}
 use Prim.Native.Nat.{ℕ, _-_, _≤_, _<_}
@@ -8,9 +8,7 @@ use borrow.Author.Count.{below-more, below-none}
 use mathlib.Core.Bool.{false}
 use Rattle.entry_id.specs.Rules.{idRules}
 use Rattle.bundle.specs.Code.{text, relation}
-use Rattle.wire.specs.Stop.{earlier}
-use Rattle.wire.proofs.FirstLaws.{any-some}
-use Rattle.wire.proofs.StopLaws.{earlier-none}
+use Rattle.wire.proofs.FirstLaws.{first-is, first-none}
 
 abbrev Inv-loop : tie.InvT-loop
 Inv-loop twice texts lens i j₀ j = (j ≤ i) × ((k : ℕ) → k < j → relation idRules twice (text texts lens k) (text texts lens i) ≡ false)
@@ -25,8 +23,8 @@ related-requires : tie.Need-related-requires Inv-loop μ-loop
 related-requires c κs = search needs
 
 returns : tie.Need-returns Inv-loop μ-loop
-unfolding earlier
-returns c = sym (any-some _ _ (c .before .before .before .loop .j) (omega arith) (sym (c .before .related .ensures) ∙ c .if1 .taken))
+returns c = let l = c .before .before .before .loop in
+    sym (first-is _ _ (l .j) (omega arith) (sym (c .before .related .ensures) ∙ c .if1 .taken) (l .inv .1))
 
 add-j : tie.Need-add-j Inv-loop μ-loop
 add-j c = search needs
@@ -40,11 +38,11 @@ loop-again c = let l = c .before .before .before .loop in
 
 returns-2 : tie.Need-returns-2 Inv-loop μ-loop
 returns-2 c = let l = c .before .loop in
-    let a = c .before .before .before .before .args in
-    sym (earlier-none (relation idRules (a .twice)) (text (a .texts .now) (a .lens .now)) (a .i) (λ k h. l .inv .1 k (omega arith)))
+    let e : l .j ≡ c .before .before .before .before .args .i = omega arith in
+    e ∙ sym (first-none _ _ (λ k h. l .inv .1 k (omega arith)))
 
-pub earlier-related-spec : {M : Type 1} → statement M
-earlier-related-spec =
+pub related-before-spec : {M : Type 1} → statement M
+related-before-spec =
     tie.close
     (tie.spec
     Inv-loop
