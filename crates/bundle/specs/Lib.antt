@@ -5,6 +5,7 @@ pub mod Entry
 pub mod Pick
 pub mod Accepted
 pub mod Theorems
+pub mod Records
 pub mod Layout
 pub mod Normal
 pub mod Demand

@@ -9,10 +9,10 @@ use borrow.Author.Count.{below-more, below-none}
 use lib.ListN.{getD}
 use Rattle.wire.proofs.FirstLaws.{first-is, first-none}
 use Rattle.bundle.specs.Check.{outside}
-use Rattle.bundle.specs.Code.{noRow}
+use Rattle.bundle.specs.Records.{noRecord}
 
 abbrev Inv-loop : tie.InvT-loop
-Inv-loop n end len rows i₀ i = (i ≤ n) × ((k : ℕ) → k < i → outside end len (getD rows k noRow .offset) (getD rows k noRow .size) ≡ false)
+Inv-loop n end len rows i₀ i = (i ≤ n) × ((k : ℕ) → k < i → outside end len (getD rows k noRecord .«image_start») (getD rows k noRecord .«image_len») ≡ false)
 
 abbrev μ-loop : tie.MeasureT-loop
 μ-loop n end len rows i₀ i = n - i

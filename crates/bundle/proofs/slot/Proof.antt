@@ -5,7 +5,7 @@ use native.Mathlib.Omega.{arith}
 use mathlib.Core.Path.{_≡_, ap}
 use Prim.Native.Nat.{_+_, _*_, _-_}
 use lib.ListN.{getD, take, drop}
-use Rattle.bundle.specs.Code.{text}
+use Rattle.bundle.specs.Records.{text}
 
 mul-a : tie.Need-mul-a
 mul-a c = search needs
