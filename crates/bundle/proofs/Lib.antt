@@ -8,6 +8,7 @@ pub mod Theorems
 pub mod RowLaws
 pub mod SlotLaws
 pub mod StageLaws
+pub mod RecordLaws
 pub mod ChoiceLaws
 pub mod IdLaws
 pub mod LayoutLaws

@@ -22,10 +22,10 @@ use Rattle.bundle.proofs.RowLaws.{rows-all, rows-are}
 
 -- ---- a chain stops at its first refusal, and goes past what does not refuse
 
-found-at : (k n : ℕ) (p : ℕ → Bool) (r : ℕ) (rest : Stop) → r ≡ first n p → r < n → stop (suc k) r ≡ stopAt (suc k) n p ⨾ rest
+pub found-at : (k n : ℕ) (p : ℕ → Bool) (r : ℕ) (rest : Stop) → r ≡ first n p → r < n → stop (suc k) r ≡ stopAt (suc k) n p ⨾ rest
 found-at k n p r rest e h = rw (stopAt-found (suc k) n p r e h) (sym (⨾-stop (stop (suc k) r) rest k refl))
 
-past : (k n : ℕ) (p : ℕ → Bool) (r : ℕ) (rest t : Stop) → r ≡ first n p → n ≤ r → t ≡ rest → t ≡ stopAt k n p ⨾ rest
+pub past : (k n : ℕ) (p : ℕ → Bool) (r : ℕ) (rest t : Stop) → r ≡ first n p → n ≤ r → t ≡ rest → t ≡ stopAt k n p ⨾ rest
 past k n p r rest t e h q = rw (stopAt-clear k n p r e h) (q ∙ sym (⨾-go rest))
 
 -- ---- what the code compares is what the rows say
@@ -42,16 +42,16 @@ held-same R f g texts lens k e h = record { size = h .size ∙ ap (λ r. length 
 
 -- ---- 5 to 8
 
+pub judged : (R : IdRules) (rows : ℕ → Row) (n : ℕ) (texts lens : List ℕ) (k i : ℕ) (t : Stop) → stop (suc k) i ≡ t → Judged R t rows n texts lens (suc k) i
+judged R rows n texts lens k i t e = record { stop-is = e; held = λ q. absurd (omega arith) }
+
 module _ (R : IdRules) (rows : ℕ → Row) (n end len : ℕ) (texts lens : List ℕ) (bad : ℕ) (nd : Named R rows n texts lens bad) where
   abbrev Answer : ℕ → ℕ → Type 0
   Answer k i = Judged R (rowsStop R end len n rows) rows n texts lens k i
 
-  judged : (k i : ℕ) → stop (suc k) i ≡ rowsStop R end len n rows → Answer (suc k) i
-  judged k i e = record { stop-is = e; held = λ q. absurd (omega arith) }
-
   pub at-5 : bad < n → Answer 5 bad
   unfolding rowsStop
-  at-5 h = judged 4 bad (found-at 4 n _ bad _ (nd .bad-is) h)
+  at-5 h = judged R rows n texts lens 4 bad _ (found-at 4 n _ bad _ (nd .bad-is) h)
 
   module _ (none : n ≤ bad) (out : ℕ) (out-is : out ≡ first n (λ i. outside end len (rows i .offset) (rows i .size))) where
     past-5 : (t : Stop) → t ≡ stopAt 6 n (λ i. outside end len (rows i .offset) (rows i .size)) ⨾ stopAt 7 n (earlier (meanSame R) rows) ⨾ stopAt 8 n (earlier (mix R) rows) → t ≡ rowsStop R end len n rows
@@ -59,7 +59,7 @@ module _ (R : IdRules) (rows : ℕ → Row) (n end len : ℕ) (texts lens : List
     past-5 t e = past 5 n _ bad _ t (nd .bad-is) none e
 
     pub at-6 : out < n → Answer 6 out
-    at-6 h = judged 5 out (past-5 _ (found-at 5 n _ out _ out-is h))
+    at-6 h = judged R rows n texts lens 5 out _ (past-5 _ (found-at 5 n _ out _ out-is h))
 
     module _ (inside : n ≤ out) (twice : ℕ) (a : twice ≡ first n (earlier (relation R true) (text texts lens))) where
       twice-is : twice ≡ first n (earlier (meanSame R) rows)
@@ -70,7 +70,7 @@ module _ (R : IdRules) (rows : ℕ → Row) (n end len : ℕ) (texts lens : List
       past-6 t e = past-5 t (past 6 n _ out _ t out-is inside e)
 
       pub at-7 : twice < n → Answer 7 twice
-      at-7 h = judged 6 twice (past-6 _ (found-at 6 n _ twice _ twice-is h))
+      at-7 h = judged R rows n texts lens 6 twice _ (past-6 _ (found-at 6 n _ twice _ twice-is h))
 
       module _ (once : n ≤ twice) (mixed : ℕ) (m : mixed ≡ first n (earlier (relation R false) (text texts lens))) where
         mixed-is : mixed ≡ first n (earlier (mix R) rows)
@@ -81,7 +81,7 @@ module _ (R : IdRules) (rows : ℕ → Row) (n end len : ℕ) (texts lens : List
         past-7 t e = past-6 t (past 7 n _ twice _ t twice-is once e)
 
         pub at-8 : mixed < n → Answer 8 mixed
-        at-8 h = judged 7 mixed (past-7 _ (sym (stopAt-found 8 n _ mixed mixed-is h)))
+        at-8 h = judged R rows n texts lens 7 mixed _ (past-7 _ (sym (stopAt-found 8 n _ mixed mixed-is h)))
 
         pub at-0 : n ≤ mixed → Answer 0 0
         at-0 h = record { stop-is = past-7 go (sym (stopAt-clear 8 n _ mixed mixed-is h)); held = λ q. nd .held none }

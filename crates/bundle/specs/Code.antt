@@ -9,9 +9,9 @@ use Rattle.wire.specs.Word.{word}
 use Rattle.wire.specs.First.{first}
 use Rattle.entry_id.specs.IdRules.{IdRules}
 use Rattle.bundle.specs.Table.{Row, rowStart}
-use Rattle.bundle.specs.Check.{badRow, badId}
+use Rattle.bundle.specs.Check.{badRow, outside, badId}
 use Rattle.bundle.specs.Accepted.{RowFits}
-use Rattle.bundle.specs.Records.{noRecord, text, Held}
+use Rattle.bundle.specs.Records.{noRecord, badPart, text, Held}
 use Rattle.bundle.specs.declared.EntryRecord.{EntryRecord}
 
 -- ---- rows
@@ -32,6 +32,11 @@ pub record Tabled (s : List ℕ) (n : ℕ) (rows : List EntryRecord) (bad end : 
   pub bad-is : bad ≡ first n (λ i. badRow s (rowStart s i))
   pub end-is : n ≤ bad → end ≡ rowStart s n
   pub rows-are : Rows s bad rows
+
+-- 4 of a record whose ID lies in a buffer of `len` bytes; or 6
+abbrev pub badRecord : Bool → ℕ → ℕ → EntryRecord → Bool
+badRecord true end len r = badPart len r
+badRecord false end len r = outside end len (r .«image_start») (r .«image_len»)
 
 -- the ID parts of n records lie in `ids`
 pub record IdsIn (ids : List ℕ) (n : ℕ) (rows : List EntryRecord) : Type 0 where

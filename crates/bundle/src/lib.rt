@@ -11,8 +11,8 @@ ghost use Rattle.bundle.specs.Check.{badRow, outside, headStop, rowsStop
 ghost use Rattle.bundle.specs.Pick.{pick};
 ghost use Rattle.bundle.specs.Accepted.{RowFits};
 ghost use Rattle.bundle.specs.Theorems.{refusal};
-ghost use Rattle.bundle.specs.Records.{noRecord, recordAt, rowsOf, badPart, recordsStop, text, Judged, Examination};
-ghost use Rattle.bundle.specs.Code.{heldRow, Rows, Tabled, IdsIn, Room, Canonical, Texts, Named, relation};
+ghost use Rattle.bundle.specs.Records.{recordAt, rowsOf, badPart, recordsStop, text, Judged, Examination};
+ghost use Rattle.bundle.specs.Code.{heldRow, Rows, Tabled, badRecord, IdsIn, Room, Canonical, Texts, Named, relation};
 
 // What a check returns: the refusal's number and place, or 0, 0 and the entry count.
 pub struct Checked {
@@ -187,14 +187,42 @@ fn outside_row(row: EntryRecord, end: usize, len: usize) -> bool
     len - offset < row.image_len
 }
 
-// The first row of n whose image is outside, or n.
-fn first_outside(rows: [EntryRecord; 64], n: usize, end: usize, len: usize) -> usize
+// 4 TABLE, of a record whose ID lies in a buffer of `room` bytes. The sum is never made, so it cannot wrap.
+fn bad_part(row: EntryRecord, room: usize) -> bool
+    ensures { λ r. ⌜ r ≡ badPart room row ⌝ }
+{
+    let start = row.id_start;
+    let len = row.id_len;
+    if len == 0 {
+        return true;
+    }
+    if 256 < len {
+        return true;
+    }
+    if room < start {
+        return true;
+    }
+    room - start < len
+}
+
+// Of a record: 4 TABLE in a buffer of IDs of `len` bytes, where `ids`; else 6 RANGE.
+fn bad_record(ids: bool, row: EntryRecord, end: usize, len: usize) -> bool
+    ensures { λ r. ⌜ r ≡ badRecord ids end len row ⌝ }
+{
+    if ids {
+        return bad_part(row, len);
+    }
+    outside_row(row, end, len)
+}
+
+// The first of n records that is bad, or n.
+fn first_bad(ids: bool, rows: [EntryRecord; 64], n: usize, end: usize, len: usize) -> usize
     requires { ⌜ n ≤ 64 ⌝ }
-    ensures { λ r. ⌜ r ≡ first n (λ i. outside end len (getD rows i noRecord .«image_start») (getD rows i noRecord .«image_len»)) ⌝ }
+    ensures { λ r. ⌜ r ≡ first n (λ i. badRecord ids end len (recordAt rows i)) ⌝ }
 {
     let mut i: usize = 0;
     while i < n {
-        if outside_row(rows[i], end, len) {
+        if bad_record(ids, rows[i], end, len) {
             return i;
         }
         i += 1;
@@ -303,7 +331,7 @@ fn judge(
     ensures { λ r. ⌜ Judged idRules (rowsStop idRules end len n (rowsOf (now (ids .entry)) rows)) (rowsOf (now (ids .entry)) rows) n (now (texts .exit)) (now (lens .exit)) (r .number) (r .place) ⌝ }
 {
     let bad_id = canonicals(ids, rows, n, texts, lens);
-    let out = first_outside(rows, n, end, len);
+    let out = first_bad(false, rows, n, end, len);
     if bad_id < n {
         return Refusal {
             number: 5,
@@ -336,7 +364,47 @@ fn judge(
     }
 }
 
-// 1 to 8 of a bundle: the first that refuses it; else its count and rows, with the canonical IDs in their slots.
+fn examine_records_in(
+    ids: &[u8],
+    rows: [EntryRecord; 64],
+    n: usize,
+    len: usize,
+    texts: &mut [u8],
+    lens: &mut [usize],
+) -> Refusal
+    requires { ⌜ Room (now texts) (now lens) ⌝ }
+    ensures { λ r. ⌜ Judged idRules (recordsStop idRules (now (ids .entry)) len n rows) (rowsOf (now (ids .entry)) rows) n (now (texts .exit)) (now (lens .exit)) (r .number) (r .place) ⌝ }
+{
+    if 64 < n {
+        return Refusal {
+            number: 3,
+            place: 0,
+        };
+    }
+    let bad = first_bad(true, rows, n, 0, ids.len());
+    if bad < n {
+        return Refusal {
+            number: 4,
+            place: bad,
+        };
+    }
+    judge(ids, rows, n, 0, len, texts, lens)
+}
+
+// 3 to 8 of n records, with IDs in `ids` and images in a buffer of `len` bytes: the first that refuses them; else 0, and the canonical IDs in their slots.
+pub fn examine_records(
+    ids: &[u8],
+    rows: [EntryRecord; 64],
+    n: usize,
+    len: usize,
+    texts: &mut [u8; 16384],
+    lens: &mut [usize; 64],
+) -> Refusal
+    ensures { λ r. ⌜ Judged idRules (recordsStop idRules (now (ids .entry)) len n rows) (rowsOf (now (ids .entry)) rows) n (now (texts .exit)) (now (lens .exit)) (r .number) (r .place) ⌝ }
+{
+    examine_records_in(ids, rows, n, len, texts, lens)
+}
+
 fn examine_in(s: &[u8], texts: &mut [u8], lens: &mut [usize]) -> Examined
     requires { ⌜ Room (now texts) (now lens) ⌝ }
     ensures { λ r. ⌜ Examination idRules (now (s .entry)) (now (texts .exit)) (now (lens .exit)) (r .number) (r .place) (r .count) (r .rows) ⌝ }
@@ -374,6 +442,13 @@ fn examine_in(s: &[u8], texts: &mut [u8], lens: &mut [usize]) -> Examined
         count: count,
         rows: rows,
     }
+}
+
+// 1 to 8 of a bundle: the first that refuses it; else its count and rows, with the canonical IDs in their slots.
+pub fn examine(bundle: &[u8], texts: &mut [u8; 16384], lens: &mut [usize; 64]) -> Examined
+    ensures { λ r. ⌜ Examination idRules (now (bundle .entry)) (now (texts .exit)) (now (lens .exit)) (r .number) (r .place) (r .count) (r .rows) ⌝ }
+{
+    examine_in(bundle, texts, lens)
 }
 
 fn check_in(s: &[u8], texts: &mut [u8], lens: &mut [usize]) -> Checked

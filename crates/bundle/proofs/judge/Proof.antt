@@ -11,8 +11,8 @@ use Rattle.bundle.proofs.StageLaws.{at-5, at-6, at-7, at-8, at-0}
 canonicals-requires : tie.Need-canonicals-requires
 canonicals-requires c κs = search needs
 
-first-outside-requires : tie.Need-first-outside-requires
-first-outside-requires c κs = search needs
+first-bad-requires : tie.Need-first-bad-requires
+first-bad-requires c κs = search needs
 
 same-length : tie.Need-same-length
 same-length c = search needs
@@ -32,7 +32,7 @@ same-length-4 c = search needs
 
 returns-2 : tie.Need-returns-2
 unfolding rowsOf recordAt rowOf
-returns-2 c = at-6 idRules _ _ _ _ _ _ _ (c .before .before .before .before .before .before .before .canonicals .ensures) (omega arith) _ (c .before .before .first-outside .ensures) (omega arith)
+returns-2 c = at-6 idRules _ _ _ _ _ _ _ (c .before .before .before .before .before .before .before .canonicals .ensures) (omega arith) _ (c .before .before .first-bad .ensures) (omega arith)
 
 first-related-requires : tie.Need-first-related-requires
 first-related-requires c κs = let k = c .before .before .before .before .before .before .before .before .before .canonicals in
@@ -46,7 +46,7 @@ same-length-6 c = search needs
 
 returns-3 : tie.Need-returns-3
 unfolding rowsOf recordAt rowOf
-returns-3 c = at-7 idRules _ _ _ _ _ _ _ (c .before .before .before .before .before .before .before .before .before .before .before .canonicals .ensures) (omega arith) _ (c .before .before .before .before .before .before .first-outside .ensures) (omega arith) _ (c .before .first-related .ensures) (omega arith)
+returns-3 c = at-7 idRules _ _ _ _ _ _ _ (c .before .before .before .before .before .before .before .before .before .before .before .canonicals .ensures) (omega arith) _ (c .before .before .before .before .before .before .first-bad .ensures) (omega arith) _ (c .before .first-related .ensures) (omega arith)
 
 first-related-requires-2 : tie.Need-first-related-requires-2
 first-related-requires-2 c κs = let k = c .before .before .before .before .before .before .before .before .before .before .before .before .before .canonicals in
@@ -60,7 +60,7 @@ same-length-8 c = search needs
 
 returns-4 : tie.Need-returns-4
 unfolding rowsOf recordAt rowOf
-returns-4 c = at-8 idRules _ _ _ _ _ _ _ (c .before .before .before .before .before .before .before .before .before .before .before .before .before .before .before .canonicals .ensures) (omega arith) _ (c .before .before .before .before .before .before .before .before .before .before .first-outside .ensures) (omega arith) _ (c .before .before .before .before .before .first-related .ensures) (omega arith) _ (c .before .first-related2 .ensures) (omega arith)
+returns-4 c = at-8 idRules _ _ _ _ _ _ _ (c .before .before .before .before .before .before .before .before .before .before .before .before .before .before .before .canonicals .ensures) (omega arith) _ (c .before .before .before .before .before .before .before .before .before .before .first-bad .ensures) (omega arith) _ (c .before .before .before .before .before .first-related .ensures) (omega arith) _ (c .before .first-related2 .ensures) (omega arith)
 
 same-length-9 : tie.Need-same-length-9
 same-length-9 c = search needs
@@ -70,14 +70,14 @@ same-length-10 c = search needs
 
 returns-5 : tie.Need-returns-5
 unfolding rowsOf recordAt rowOf
-returns-5 c = at-0 idRules _ _ _ _ _ _ _ (c .before .before .before .before .before .before .before .before .before .before .before .before .before .before .before .canonicals .ensures) (omega arith) _ (c .before .before .before .before .before .before .before .before .before .before .first-outside .ensures) (omega arith) _ (c .before .before .before .before .before .first-related .ensures) (omega arith) _ (c .before .first-related2 .ensures) (omega arith)
+returns-5 c = at-0 idRules _ _ _ _ _ _ _ (c .before .before .before .before .before .before .before .before .before .before .before .before .before .before .before .canonicals .ensures) (omega arith) _ (c .before .before .before .before .before .before .before .before .before .before .first-bad .ensures) (omega arith) _ (c .before .before .before .before .before .first-related .ensures) (omega arith) _ (c .before .first-related2 .ensures) (omega arith)
 
 pub judge-spec : {M : Type 1} → statement M
 judge-spec =
     tie.close
     (tie.spec
     canonicals-requires
-    first-outside-requires
+    first-bad-requires
     same-length
     same-length-2
     returns
