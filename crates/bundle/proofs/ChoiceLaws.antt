@@ -16,7 +16,7 @@ use Rattle.bundle.specs.Pick.{compatibleAt, pick}
 use Rattle.bundle.specs.Accepted.{Accepted}
 use Rattle.bundle.specs.Theorems.{refusal, Asked}
 use Rattle.bundle.specs.Records.{noRecord, recordAt, rowOf, rowsOf, text, Examination}
-use Rattle.bundle.specs.Code.{Room, Texts}
+use Rattle.bundle.specs.Code.{Texts}
 use Rattle.bundle.specs.declared.EntryRecord.{EntryRecord}
 use Rattle.bundle.specs.declared.Picked.{Picked}
 use Rattle.bundle.proofs.CheckLaws.{unrefused-go}
@@ -45,9 +45,9 @@ module _ (R : IdRules) (L : Lawful R) (s device texts lens : List ℕ) (number p
     pub few : n ≤ 64
     few = omega (arith, n-is, sound .frame .few)
 
-    pub texts-all : Room texts lens → Texts R texts lens n
-    texts-all room =
-        held-texts R L (row s) n texts lens few room (x .held z)
+    pub texts-all : Texts R texts lens n
+    texts-all =
+        held-texts R L (row s) n texts lens (x .held z)
         (λ k h. sound .sense .meant .named k (omega (arith, n-is)))
 
     pub picked-query : empty (R .canon device) ≡ true → refusal 9 0 ≡ pick R s device

@@ -2,19 +2,19 @@
 use Prim.Native.Nat.{ℕ, _+_, _<_, _≤_}
 use native.Mathlib.Omega.{arith}
 use mathlib.Core.Logic.{_↔_}
-use mathlib.Core.Path.{_≡_, refl, sym, ap, _∙_}
+use mathlib.Core.Path.{_≡_, refl, sym, _∙_}
 use mathlib.Core.Bool.{true, false}
 use mathlib.Core.List.{List}
-use lib.ListN.{length, getD}
+use lib.ListN.{length}
 use borrow.Author.Tests.{leb-true, le-leb, lt-ltb, le-ltb}
 use Rattle.wire.specs.First.{first}
-use Rattle.wire.specs.Stop.{Stop, stop, go, _⨾_, stopIf, stopWhen, stopAt}
+use Rattle.wire.specs.Stop.{Stop, _⨾_, stopIf, stopWhen, stopAt}
 use Rattle.wire.proofs.Bools.{byBool, and-both, both-and, not-no, yes-not}
 use Rattle.wire.proofs.FirstLaws.{first-before}
 use Rattle.wire.proofs.StopLaws.{⨾-go}
 use Rattle.entry_id.specs.IdRules.{IdRules}
 use Rattle.bundle.specs.Check.{rowsStop}
-use Rattle.bundle.specs.Records.{noRecord, recordAt, rowsOf, badPart, recordsStop, Judged}
+use Rattle.bundle.specs.Records.{recordAt, rowsOf, badPart, recordsStop, Judged}
 use Rattle.bundle.specs.Code.{IdsIn}
 use Rattle.bundle.specs.declared.EntryRecord.{EntryRecord}
 use Rattle.bundle.proofs.StageLaws.{found-at, past, judged}

@@ -109,34 +109,15 @@ module _ (R : IdRules) (L : Lawful R) (rows : ℕ → Row) (id texts after lens 
 
 -- ---- the slots, as texts
 
-pub fewer : (R : IdRules) (texts lens : List ℕ) (n m : ℕ) → Texts R texts lens n → m ≤ n → Texts R texts lens m
-fewer R texts lens n m t h = record {
-  room = omega (arith, t .room);
-  lens-room = omega (arith, t .lens-room);
-  short = λ k l. t .short k (omega arith);
-  canonical = λ k l. t .canonical k (omega arith);
-}
-
-pub slot-in : (R : IdRules) (texts lens : List ℕ) (n k : ℕ) → Texts R texts lens n → k < n → (k * 256 + 256 ≤ length texts) × (k < length lens) × (getD lens k 0 ≤ 256)
-slot-in R texts lens n k t h = (omega (arith, t .room), omega (arith, t .lens-room), t .short k h)
-
 -- slots that hold the canonical IDs of rows whose IDs keep the rules
-pub held-texts : (R : IdRules) → Lawful R → (rows : ℕ → Row) (n : ℕ) (texts lens : List ℕ) → n ≤ 64 → Room texts lens
+pub held-texts : (R : IdRules) → Lawful R → (rows : ℕ → Row) (n : ℕ) (texts lens : List ℕ)
     → ((k : ℕ) → k < n → Held R rows texts lens k) → ((k : ℕ) → k < n → badId R (rows k) ≡ false) → Texts R texts lens n
 unfolding badId
-held-texts R L rows n texts lens few room held named = record {
-  room = omega (arith, room .texts-room);
-  lens-room = omega (arith, room .lens-room);
-  short = λ k h. rw (held k h .size) (L .canon-short (rows k .id));
-  canonical = λ k h. rw (held k h .text-is) (record { again = L .canon-again (rows k .id); some = named k h });
-}
+held-texts R L rows n texts lens held named k h = rw (held k h .text-is) (record { again = L .canon-again (rows k .id); some = named k h })
 
-pub named-texts : (R : IdRules) → Lawful R → (rows : ℕ → Row) (n : ℕ) (texts lens : List ℕ) (bad : ℕ) → n ≤ 64 → Room texts lens → Named R rows n texts lens bad → n ≤ bad → Texts R texts lens n
-named-texts R L rows n texts lens bad few room nd none =
-    held-texts R L rows n texts lens few room (nd .held none) (λ k h. first-before n (λ i. badId R (rows i)) k (omega (arith, nd .bad-is)))
-
-pub room-kept : (texts lens texts′ lens′ : List ℕ) → Room texts lens → length texts′ ≡ length texts → length lens′ ≡ length lens → Room texts′ lens′
-room-kept texts lens texts′ lens′ r p q = record { texts-room = p ∙ r .texts-room; lens-room = q ∙ r .lens-room }
+pub named-texts : (R : IdRules) → Lawful R → (rows : ℕ → Row) (n : ℕ) (texts lens : List ℕ) (bad : ℕ) → Named R rows n texts lens bad → n ≤ bad → Texts R texts lens n
+named-texts R L rows n texts lens bad nd none =
+    held-texts R L rows n texts lens (nd .held none) (λ k h. first-before n (λ i. badId R (rows i)) k (omega (arith, nd .bad-is)))
 
 -- an earlier slot was looked for: r is the first, or i
 module _ {A : Type 0} (related : A → A → Bool) (f : ℕ → A) (i r : ℕ) (e : r ≡ first i (λ j. related (f j) (f i))) where

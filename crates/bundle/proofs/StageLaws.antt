@@ -4,7 +4,7 @@ use native.Mathlib.Omega.{arith}
 use mathlib.Core.Path.{_≡_, refl, sym, ap, ap₂, _∙_}
 use mathlib.Core.Bool.{Bool, true, false}
 use mathlib.Core.List.{List}
-use lib.ListN.{length, getD}
+use lib.ListN.{length}
 use Rattle.wire.specs.First.{first}
 use Rattle.wire.specs.Stop.{Stop, go, stop, _⨾_, stopAt, earlier}
 use Rattle.wire.proofs.FirstLaws.{first-same, any-same}

@@ -56,11 +56,8 @@ pub record Canonical (R : IdRules) (a : List ℕ) : Type 0 where
   pub some : empty a ≡ false
 
 -- n slots hold canonical forms
-pub record Texts (R : IdRules) (texts lens : List ℕ) (n : ℕ) : Type 0 where
-  pub room : n * 256 ≤ length texts
-  pub lens-room : n ≤ length lens
-  pub short : (k : ℕ) → k < n → getD lens k 0 ≤ 256
-  pub canonical : (k : ℕ) → k < n → Canonical R (text texts lens k)
+abbrev pub Texts : IdRules → List ℕ → List ℕ → ℕ → Type 0
+Texts R texts lens n = (k : ℕ) → k < n → Canonical R (text texts lens k)
 
 -- the first bad ID of n rows, or n; where none is bad, the slots hold the canonical IDs
 pub record Named (R : IdRules) (rows : ℕ → Row) (n : ℕ) (texts lens : List ℕ) (bad : ℕ) : Type 0 where

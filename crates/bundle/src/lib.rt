@@ -264,12 +264,21 @@ fn canonicals(
 }
 
 // The text of slot k: the slots of `texts` have 256 bytes each, `lens` has the lengths of what they hold.
-fn slot<'a, 'b>(texts: &'a [u8], lens: &'b [usize], k: usize) -> &'a [u8]
-    requires { ⌜ (k * 256 + 256 ≤ length (now texts)) × (k < length (now lens)) × (getD (now lens) k 0 ≤ 256) ⌝ }
+pub fn slot<'a, 'b>(texts: &'a [u8], lens: &'b [usize], k: usize) -> &'a [u8]
     ensures { λ r. ⌜ now r ≡ text (now (texts .entry)) (now (lens .entry)) k ⌝ }
 {
+    if lens.len() <= k {
+        return &texts[..0];
+    }
+    if texts.len() / 256 < k {
+        return &texts[..0];
+    }
     let a = k * 256;
-    let e = a + lens[k];
+    let len = lens[k];
+    if texts.len() - a < len {
+        return &texts[a..];
+    }
+    let e = a + len;
     &texts[a..e]
 }
 

@@ -1,4 +1,3 @@
-use borrow.Author.Needs.{needs}
 use Rattle.bundle.proofs.bad_part.Statement.{statement}
 use Rattle.bundle.proofs.bad_part.Tie as tie
 use native.Mathlib.Omega.{arith}

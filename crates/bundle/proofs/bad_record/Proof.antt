@@ -1,24 +1,16 @@
 use borrow.Author.Needs.{needs}
 use Rattle.bundle.proofs.bad_record.Statement.{statement}
 use Rattle.bundle.proofs.bad_record.Tie as tie
-use Rattle.bundle.proofs.bad_record.Reads as reads
-use Rattle.bundle.proofs.bad_record.Lts as lts
-use Rattle.bundle.proofs.bad_part.Reads as bad-part-reads
-use Rattle.bundle.proofs.outside_row.Reads as outside-row-reads
 
--- src/lib.rt:213:9
 bad-part-requires : tie.Need-bad-part-requires
 bad-part-requires c κs = search needs
 
--- src/lib.rt:213:9
 returns : tie.Need-returns
 returns c = rw (c .before .if1 .taken) (c .bad-part .ensures)
 
--- src/lib.rt:215:5
 outside-row-requires : tie.Need-outside-row-requires
 outside-row-requires c κs = search needs
 
--- src/lib.rt:209:1
 returns-2 : tie.Need-returns-2
 returns-2 c = rw (c .before .if1 .left) (c .outside-row .ensures)
 

@@ -4,36 +4,25 @@ use Rattle.bundle.proofs.RecordLaws.{records-many, records-part, record
 use borrow.Author.Needs.{needs}
 use Rattle.bundle.proofs.examine_records_in.Statement.{statement}
 use Rattle.bundle.proofs.examine_records_in.Tie as tie
-use Rattle.bundle.proofs.examine_records_in.Reads as reads
-use Rattle.bundle.proofs.examine_records_in.Lts as lts
-use Rattle.bundle.proofs.first_bad.Reads as first-bad-reads
-use Rattle.bundle.proofs.judge.Reads as judge-reads
 
--- src/lib.rt:379:9
 returns : tie.Need-returns
 returns c = records-many idRules _ _ _ _ _ _ (c .if1 .taken)
 
--- src/lib.rt:384:9
 first-bad-requires : tie.Need-first-bad-requires
 first-bad-requires c κs = search needs
 
--- src/lib.rt:386:9
 returns-2 : tie.Need-returns-2
 returns-2 c = records-part idRules _ _ _ _ _ _ (c .before .before .if1 .left) _ (c .before .first-bad .ensures) (c .if2 .taken)
 
--- src/lib.rt:391:5
 judge-requires : tie.Need-judge-requires
 judge-requires c κs = (records-in idRules _ 0 _ _ [] [] (c .before .before .before .before .if1 .left) _ (c .before .before .before .first-bad .ensures) (c .before .before .if2 .left), c .before .before .before .before .before .before .before .before .pre)
 
--- src/lib.rt:367:1
 same-length : tie.Need-same-length
 same-length c = search needs
 
--- src/lib.rt:367:1
 same-length-2 : tie.Need-same-length-2
 same-length-2 c = search needs
 
--- src/lib.rt:367:1
 returns-3 : tie.Need-returns-3
 returns-3 c = records-rest idRules _ _ _ _ _ _ (c .before .before .before .before .before .before .before .before .before .if1 .left) _ (c .before .before .before .before .before .before .before .before .first-bad .ensures) (c .before .before .before .before .before .before .before .if2 .left) _ _ (c .before .before .before .before .judge .ensures)
 

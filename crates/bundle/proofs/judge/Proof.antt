@@ -5,7 +5,7 @@ use native.Mathlib.Omega.{arith}
 use Rattle.entry_id.specs.Rules.{idRules}
 use Rattle.entry_id.proofs.RuleLaws.{idRules-lawful}
 use Rattle.bundle.specs.Records.{recordAt, rowOf, rowsOf}
-use Rattle.bundle.proofs.SlotLaws.{named-texts, room-kept}
+use Rattle.bundle.proofs.SlotLaws.{named-texts}
 use Rattle.bundle.proofs.StageLaws.{at-5, at-6, at-7, at-8, at-0}
 
 canonicals-requires : tie.Need-canonicals-requires
@@ -36,7 +36,7 @@ returns-2 c = at-6 idRules _ _ _ _ _ _ _ (c .before .before .before .before .bef
 
 first-related-requires : tie.Need-first-related-requires
 first-related-requires c κs = let k = c .before .before .before .before .before .before .before .before .before .canonicals in
-    named-texts idRules idRules-lawful _ _ _ _ _ (c .before .before .before .before .before .before .before .before .before .before .before .before .before .before .before .pre .0 .few) (room-kept _ _ _ _ (c .before .before .before .before .before .before .before .before .before .before .before .before .before .before .before .pre .1) (k .kept .1 .1 .1 .0) (k .kept .1 .1 .1 .1 .0)) (k .ensures) (omega arith)
+    named-texts idRules idRules-lawful _ _ _ _ _ (k .ensures) (omega arith)
 
 same-length-5 : tie.Need-same-length-5
 same-length-5 c = search needs
@@ -50,7 +50,7 @@ returns-3 c = at-7 idRules _ _ _ _ _ _ _ (c .before .before .before .before .bef
 
 first-related-requires-2 : tie.Need-first-related-requires-2
 first-related-requires-2 c κs = let k = c .before .before .before .before .before .before .before .before .before .before .before .before .before .canonicals in
-    named-texts idRules idRules-lawful _ _ _ _ _ (c .before .before .before .before .before .before .before .before .before .before .before .before .before .before .before .before .before .before .before .pre .0 .few) (room-kept _ _ _ _ (c .before .before .before .before .before .before .before .before .before .before .before .before .before .before .before .before .before .before .before .pre .1) (k .kept .1 .1 .1 .0) (k .kept .1 .1 .1 .1 .0)) (k .ensures) (omega arith)
+    named-texts idRules idRules-lawful _ _ _ _ _ (k .ensures) (omega arith)
 
 same-length-7 : tie.Need-same-length-7
 same-length-7 c = search needs

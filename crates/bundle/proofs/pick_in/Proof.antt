@@ -6,7 +6,6 @@ use mathlib.Core.List.{[]}
 use mathlib.Core.Path.{refl, sym, _∙_}
 use Rattle.entry_id.specs.Rules.{idRules}
 use Rattle.entry_id.proofs.RuleLaws.{idRules-lawful}
-use Rattle.bundle.proofs.SlotLaws.{room-kept}
 use Rattle.bundle.proofs.IdLaws.{Made, name-fits, name-length, name-is, name-none, name-some, name-canonical}
 use Rattle.bundle.proofs.ChoiceLaws.{few, picked-stop, picked-query, texts-all, picked-none, picked-image}
 
@@ -58,7 +57,7 @@ slice-aggregate-first-compatible c = let k = c .before .before .before .before .
 first-compatible-requires : tie.Need-first-compatible-requires
 first-compatible-requires c κs = let k = c .before .before .before .before .before .before .canonical in
     let m : Made (c .before .before .before .before .before .before .before .before .before .before .before .before .before .before .before .before .before .before .before .before .before .args .device .now) (c .before .before .before .before .before .before .before .before .before .before .before .before .before .before .before .before .before .before .before .before .before .args .name .now) (k .last .1 .0) (k .result) = record { size = k .ensures .0; text = k .ensures .1 } in
-    (texts-all idRules idRules-lawful _ (c .before .before .before .before .before .before .before .before .before .before .before .before .before .before .before .before .before .before .before .before .before .args .device .now) _ _ _ _ _ _ (c .before .before .before .before .before .before .before .before .before .before .before .before .before .examine-in .ensures) (omega arith) (room-kept _ _ _ _ (c .before .before .before .before .before .before .before .before .before .before .before .before .before .before .before .before .before .before .before .before .before .pre .0) (c .before .before .before .before .before .before .before .before .before .before .before .before .before .examine-in .kept .1 .0) (c .before .before .before .before .before .before .before .before .before .before .before .before .before .examine-in .kept .1 .1 .0)), name-canonical _ _ _ _ (c .before .before .before .before .before .before .before .before .before .before .before .before .before .before .before .before .before .before .before .before .before .pre .1) m (c .before .before .before .if2 .left))
+    (texts-all idRules idRules-lawful _ (c .before .before .before .before .before .before .before .before .before .before .before .before .before .before .before .before .before .before .before .before .before .args .device .now) _ _ _ _ _ _ (c .before .before .before .before .before .before .before .before .before .before .before .before .before .examine-in .ensures) (omega arith), name-canonical _ _ _ _ (c .before .before .before .before .before .before .before .before .before .before .before .before .before .before .before .before .before .before .before .before .before .pre .1) m (c .before .before .before .if2 .left))
 
 no-image-requires-3 : tie.Need-no-image-requires-3
 no-image-requires-3 c κs = search needs
