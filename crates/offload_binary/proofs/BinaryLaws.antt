@@ -1,0 +1,37 @@
+-- Laws of one binary: strings, and what the tests 13 to 17 leave where they do not apply. Assumes nothing.
+use Prim.Native.Nat.{ℕ, _+_, _≤_, _<_}
+use native.Mathlib.Omega.{arith}
+use mathlib.Core.Path.{_≡_, refl, sym, ap, _∙_}
+use mathlib.Core.Bool.{Bool, true, false}
+use mathlib.Core.List.{List}
+use lib.ListN.{length, drop}
+use lib.Seq.{length-take-le}
+use borrow.Author.Tests.{ltb-false}
+use Rattle.wire.proofs.Bools.{or-neither}
+use Rattle.wire.proofs.StopLaws.{⨾-left, ⨾-right, stopIf-no}
+use Rattle.offload_binary.specs.Binary.{sizeOf, entryAt, own, badSpan, binaryStop, binary, handsBack}
+
+-- the size of a binary that none of 13 to 17 refuses
+pub record Sized (b : List ℕ) : Type 0 where
+  pub some : 72 ≤ sizeOf b
+  pub inside : sizeOf b ≤ length b
+
+pub sized : (b : List ℕ) → binaryStop b .number ≡ 0 → Sized b
+unfolding binaryStop badSpan
+sized b e =
+    let span = stopIf-no 13 _ (⨾-left _ _ (⨾-right _ _ e)) in
+    let s₁ = or-neither _ _ (or-neither _ _ (or-neither _ _ (or-neither _ _ span .0) .0) .0) in
+    record { some = ltb-false _ _ (s₁ .0); inside = ltb-false _ _ (s₁ .1) }
+
+pub length-own : (b : List ℕ) → sizeOf b ≤ length b → length (own b) ≡ sizeOf b
+unfolding own
+length-own b h = length-take-le (sizeOf b) b h
+
+-- what a binary hands back of its place
+pub start-is : (from : ℕ) (b : List ℕ) → binary from b .start ≡ from
+unfolding binary handsBack
+start-is from b = refl
+
+pub size-is : (from : ℕ) (b : List ℕ) → binary from b .size ≡ length (own b)
+unfolding binary handsBack
+size-is from b = refl

@@ -1,0 +1,6 @@
+pub mod ListLaws
+pub mod BinaryLaws
+pub mod ReaderLaws
+pub mod WrittenLaws
+pub mod ReadBack
+pub mod Theorems
