@@ -1,17 +1,36 @@
 -- Laws of one binary: strings, and what the tests 13 to 17 leave where they do not apply. Assumes nothing.
-use Prim.Native.Nat.{ℕ, _+_, _≤_, _<_}
+use Prim.Native.Nat.{ℕ, _+_, _-_, _≤_, _<_}
 use native.Mathlib.Omega.{arith}
 use mathlib.Core.Path.{_≡_, refl, sym, ap, _∙_}
 use mathlib.Core.Bool.{Bool, true, false}
-use mathlib.Core.List.{List}
-use lib.ListN.{length, drop}
-use lib.Seq.{length-take-le}
+use mathlib.Core.List.{List, []}
+use lib.ListN.{length, take, drop, length-drop, drop-of-length-le}
+use lib.Seq.{length-take-le, take-all}
 use borrow.Author.Tests.{ltb-false}
 use Rattle.wire.proofs.Bools.{or-neither}
 use Rattle.wire.proofs.StopLaws.{⨾-left, ⨾-right, stopIf-no}
-use Rattle.offload_binary.specs.Binary.{sizeOf, entryAt, own, badSpan, binaryStop, binary, handsBack}
+use Rattle.offload_binary.specs.Binary.{bytesAt, sizeOf, entryAt, own, badSpan, binaryStop, binary, handsBack}
+use Rattle.offload_binary.specs.declared.Part.{Part}
 
--- the size of a binary that none of 13 to 17 refuses
+-- ---- parts
+
+pub rest-is : (k : ℕ) (s : List ℕ) → take (length s - k) (drop k s) ≡ drop k s
+rest-is k s = take-all (length s - k) (drop k s) (omega (arith, length-drop k s))
+
+pub part-none : (s : List ℕ) (p : Part) → length s ≤ p .start → [] ≡ bytesAt s p
+unfolding bytesAt
+part-none s p h = sym (ap (take (p .len)) (drop-of-length-le s {i = p .start} h) ∙ take-all (p .len) [] (omega arith))
+
+pub part-rest : (s : List ℕ) (p : Part) → length s - p .start ≤ p .len → drop (p .start) s ≡ bytesAt s p
+unfolding bytesAt
+part-rest s p h = sym (take-all (p .len) (drop (p .start) s) (omega (arith, length-drop (p .start) s)))
+
+pub part-is : (s : List ℕ) (p : Part) → take (p .len) (drop (p .start) s) ≡ bytesAt s p
+unfolding bytesAt
+part-is s p = refl
+
+-- ---- the size of a binary that none of 13 to 17 refuses
+
 pub record Sized (b : List ℕ) : Type 0 where
   pub some : 72 ≤ sizeOf b
   pub inside : sizeOf b ≤ length b

@@ -15,7 +15,7 @@ use Rattle.wire.specs.Stop.{Stop, go, _⨾_, stopIf, stopWhen}
 use Rattle.wire.proofs.Bools.{byBool, clash, and-both, both-and}
 use Rattle.wire.proofs.StopLaws.{⨾-both, ⨾-left, ⨾-right, ⨾-next, ⨾-stop, stopIf-go, stopIf-no}
 use Rattle.offload_binary.specs.Binary.{noBinary, sizeOf, own, badHead, badSpan, bodyStop, binaryStop, binary}
-use Rattle.offload_binary.specs.Reader.{limit, opened, past, nextStop, next, cursorAfter, answer, binariesOnly, accepted, binariesFrom, binaries}
+use Rattle.offload_binary.specs.Reader.{limit, opened, handed, refused, past, nextStop, next, cursorAfter, answer, binariesOnly, accepted, binariesFrom, binaries}
 use Rattle.offload_binary.specs.Theorems.{AcceptedAtEnd, OneAfterAnother, ReadsAll, Stays}
 use Rattle.offload_binary.specs.declared.Binary.{Binary}
 use Rattle.offload_binary.specs.declared.Cursor.{Cursor}
@@ -57,12 +57,12 @@ unfolding nextStop stopIf stopWhen _⨾_
 at-end s c within e = rw (le-ltb _ _ within, eq-eqb _ _ e)
 
 pub next-go : (s : List ℕ) (c : Cursor) → nextStop s c .number ≡ 0
-    → next s c ≡ record { answer = record { number = 0; place = 0; binary = binary (c .position) (drop (c .position) s) }; cursor = past s c }
+    → next s c ≡ record { answer = handed (binary (c .position) (drop (c .position) s)); cursor = past s c }
 unfolding next
 next-go s c e = rw e
 
 pub next-stop : (s : List ℕ) (c : Cursor) (k : ℕ) → nextStop s c .number ≡ suc k
-    → next s c ≡ record { answer = record { number = suc k; place = c .position; binary = noBinary }; cursor = c }
+    → next s c ≡ record { answer = refused (suc k) (c .position); cursor = c }
 unfolding next
 next-stop s c k e = rw e
 
@@ -148,11 +148,11 @@ module _ (s : List ℕ) where
   unfolding answer
   stop-of n = number-is s (cursorAfter n s)
 
-  answer-go : (n : ℕ) → answer s n .number ≡ 0 → answer s n ≡ record { number = 0; place = 0; binary = binary (at n) (drop (at n) s) }
+  answer-go : (n : ℕ) → answer s n .number ≡ 0 → answer s n ≡ handed (binary (at n) (drop (at n) s))
   unfolding answer
   answer-go n e = ap (λ x. x .answer) (next-go s (cursorAfter n s) (sym (stop-of n) ∙ e))
 
-  answer-stop : (n k : ℕ) → nextStop s (cursorAfter n s) .number ≡ suc k → answer s n ≡ record { number = suc k; place = at n; binary = noBinary }
+  answer-stop : (n k : ℕ) → nextStop s (cursorAfter n s) .number ≡ suc k → answer s n ≡ refused (suc k) (at n)
   unfolding answer
   answer-stop n k e = ap (λ x. x .answer) (next-stop s (cursorAfter n s) k e)
 
@@ -235,15 +235,14 @@ module _ (s : List ℕ) where
 
   -- from call n on: the binaries of l, then END
   record Reads (n : ℕ) (l : List Binary) : Type 0 where
-    each : (i : ℕ) → i < length l → answer s (n + i) ≡ record { number = 0; place = 0; binary = getD l i noBinary }
-    end : (i : ℕ) → length l ≤ i → answer s (n + i) ≡ record { number = 19; place = length s; binary = noBinary }
+    each : (i : ℕ) → i < length l → answer s (n + i) ≡ handed (getD l i noBinary)
+    end : (i : ℕ) → length l ≤ i → answer s (n + i) ≡ refused 19 (length s)
 
   module _ (within : length s ≤ limit) where
     -- used up: END, again and again
     reads-none : (n : ℕ) → at n ≡ length s → Reads n []
     reads-none n e =
-        let there : _≡_ {A = Answer} (record { number = 19; place = at n; binary = noBinary }) (record { number = 19; place = length s; binary = noBinary }) = λ i. record { number = 19; place = e i; binary = noBinary } in
-        let this = answer-stop n 18 (at-end s (cursorAfter n s) within e) ∙ there in
+        let this = answer-stop n 18 (at-end s (cursorAfter n s) within e) ∙ ap (refused 19) e in
         record {
           each = λ i h. absurd (omega arith);
           end = λ i h. stays n i (λ z. omega (arith, ap (λ a. a .number) this, z)) .1 ∙ this;
@@ -252,11 +251,11 @@ module _ (s : List ℕ) where
     reads-more : (n : ℕ) (l : List Binary) → answer s n .number ≡ 0 → Reads (suc n) l → Reads n (binary (at n) (drop (at n) s) ∷ l)
     reads-more n l e r = record { each = each-of; end = end-of }
       where
-        each-of : (i : ℕ) → i < suc (length l) → answer s (n + i) ≡ record { number = 0; place = 0; binary = getD (binary (at n) (drop (at n) s) ∷ l) i noBinary }
+        each-of : (i : ℕ) → i < suc (length l) → answer s (n + i) ≡ handed (getD (binary (at n) (drop (at n) s) ∷ l) i noBinary)
         each-of zero h = ap (answer s) (add-zero n) ∙ answer-go n e
         each-of (suc i) h = let z : n + suc i ≡ suc n + i = omega arith in ap (answer s) z ∙ r .each i (omega arith)
 
-        end-of : (i : ℕ) → suc (length l) ≤ i → answer s (n + i) ≡ record { number = 19; place = length s; binary = noBinary }
+        end-of : (i : ℕ) → suc (length l) ≤ i → answer s (n + i) ≡ refused 19 (length s)
         end-of zero h = absurd (omega arith)
         end-of (suc i) h = let z : n + suc i ≡ suc n + i = omega arith in ap (answer s) z ∙ r .end i (omega arith)
 

@@ -3,3 +3,4 @@ pub mod Binary
 pub mod Reader
 pub mod Contents
 pub mod Theorems
+pub mod Code

@@ -32,10 +32,18 @@ nextStop s c =
     ⨾ stopIf 18 (leb 64 (c .taken))
     ⨾ binaryStop (drop (c .position) s)
 
--- refused: "the place is the first byte not yet read (END: the length)"; "After a refusal (LENGTH at opening too) or END it stays where it is"
+-- OK: "An accepted call has place 0"
+abbrev pub handed : Binary → Answer
+handed b = record { number = 0; place = 0; binary = b }
+
+-- "A refusal returns its number and a place .., has 0 in every other returned number"
+abbrev pub refused : ℕ → ℕ → Answer
+refused k place = record { number = k; place = place; binary = noBinary }
+
+-- "the place is the first byte not yet read (END: the length)"; "After a refusal (LENGTH at opening too) or END it stays where it is"
 abbrev stepBy : ℕ → List ℕ → Cursor → Step
-stepBy zero s c = record { answer = record { number = 0; place = 0; binary = binary (c .position) (drop (c .position) s) }; cursor = past s c }
-stepBy (suc k) s c = record { answer = record { number = suc k; place = c .position; binary = noBinary }; cursor = c }
+stepBy zero s c = record { answer = handed (binary (c .position) (drop (c .position) s)); cursor = past s c }
+stepBy (suc k) s c = record { answer = refused (suc k) (c .position); cursor = c }
 
 -- what the next call answers, and where the reader then stands
 unfoldable pub next : List ℕ → Cursor → Step

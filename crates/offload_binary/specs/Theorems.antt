@@ -6,7 +6,7 @@ use mathlib.Core.Bool.{true, false}
 use mathlib.Core.List.{List, [], _∷_, _++_, map}
 use lib.ListN.{length, getD, drop}
 use Rattle.offload_binary.specs.Binary.{noBinary, binaryStop, binary, badKinds}
-use Rattle.offload_binary.specs.Reader.{limit, next, cursorAfter, answer, accepted, binaries}
+use Rattle.offload_binary.specs.Reader.{limit, handed, refused, next, cursorAfter, answer, accepted, binaries}
 use Rattle.offload_binary.specs.Contents.{Contents, contents, written, badKeyTexts, tooBig}
 use Rattle.offload_binary.specs.declared.Cursor.{Cursor}
 
@@ -29,8 +29,8 @@ pub record OneAfterAnother (s : List ℕ) : Type 0 where
 
 -- the answers on an accepted sequence are its binaries, then END
 pub record ReadsAll (s : List ℕ) : Type 0 where
-  pub each : (n : ℕ) → n < length (binaries s) → answer s n ≡ record { number = 0; place = 0; binary = getD (binaries s) n noBinary }
-  pub end : (n : ℕ) → length (binaries s) ≤ n → answer s n ≡ record { number = 19; place = length s; binary = noBinary }
+  pub each : (n : ℕ) → n < length (binaries s) → answer s n ≡ handed (getD (binaries s) n noBinary)
+  pub end : (n : ℕ) → length (binaries s) ≤ n → answer s n ≡ refused 19 (length s)
 
 -- "After a refusal (LENGTH at opening too) or END it stays where it is, and asking again gives the same."
 abbrev pub Stays : List ℕ → Type 0

@@ -1,5 +1,15 @@
 // LLVM's offload binaries laid end to end: a cursor that reads one after another, and a reader over it.
 ghost use mathlib.Core.Path.{_≡_};
+ghost use mathlib.Core.List.{[]};
+ghost use Prim.Native.Nat.{_+_, _*_, _^_, _<_, _≤_};
+ghost use lib.ListN.{length, take, drop};
+ghost use Rattle.wire.specs.Bytes.{same};
+ghost use Rattle.wire.specs.First.{anyBelow};
+ghost use Rattle.wire.specs.Stop.{earlier};
+ghost use Rattle.offload_binary.specs.Lists.{slots};
+ghost use Rattle.offload_binary.specs.Binary.{bytesAt, run, noBinary, noPair, badHead, badSpan, badTable, badImage};
+ghost use Rattle.offload_binary.specs.Reader.{next, refused as refusal};
+ghost use Rattle.offload_binary.specs.Code.{stringLen, readPair, readPairs, keyIn, badKeys, bodyAnswer};
 
 // A part of lent bytes: the place of its first byte, and its length.
 pub struct Part {
@@ -31,13 +41,190 @@ pub struct Cursor {
     pub taken: usize,
 }
 
+// OK and a binary; or END or a refusal, its place, and no binary.
 pub struct Answer {
     pub number: usize,
     pub place: usize,
     pub binary: Binary,
 }
 
+// What a call answers, and where the reader then stands.
 pub struct Step {
     pub answer: Answer,
     pub cursor: Cursor,
+}
+
+// The first four bytes of a binary.
+const MAGIC: [u8; 4] = [0x10, 0xFF, 0x10, 0xAD];
+
+// The bytes that a part names, as far as they lie inside.
+pub fn bytes_at(s: &[u8], part: Part) -> &[u8]
+    ensures { λ r. ⌜ now r ≡ bytesAt (now (s .entry)) part ⌝ }
+{
+    let start = part.start;
+    let len = part.len;
+    if s.len() <= start {
+        return &s[..0];
+    }
+    let rest = &s[start..];
+    if rest.len() <= len {
+        return rest;
+    }
+    &rest[..len]
+}
+
+// How many bytes stand before the first zero byte: all, where there is none.
+pub fn before_zero(t: &[u8]) -> usize
+    ensures { λ r. ⌜ r ≡ run (now (t .entry)) ⌝ }
+{
+    let mut i = 0;
+    while i < t.len() {
+        if t[i] == 0 {
+            return i;
+        }
+        i += 1;
+    }
+    i
+}
+
+// How long the string at an offset is, without its zero byte; 257 where 16 is given for it. At most 257 bytes are looked at.
+fn string_len(o: &[u8], at: usize) -> usize
+    ensures { λ r. ⌜ r ≡ stringLen (now (o .entry)) at ⌝ }
+{
+    if at < 32 {
+        return 257;
+    }
+    let t = bytes_at(
+        o,
+        Part {
+            start: at,
+            len: 257,
+        },
+    );
+    let n = before_zero(t);
+    if n == t.len() {
+        return 257;
+    }
+    n
+}
+
+struct ReadPair {
+    bad: bool,
+    pair: StringPair,
+}
+
+struct ReadPairs {
+    bad: bool,
+    pairs: [StringPair; 32],
+}
+
+// Pair i of the table at an offset of o, which starts at `from`: bad where 16 is given for one of its strings.
+fn read_pair(o: &[u8], from: usize, table: usize, i: usize) -> ReadPair
+    requires { ⌜ (from + length (now o) < 2 ^ 64) × (table + 16 * i + 16 ≤ length (now o)) ⌝ }
+    ensures { λ r. ⌜ r ≡ readPair from (now (o .entry)) table i ⌝ }
+{
+    let bad = ReadPair {
+        bad: true,
+        pair: StringPair {
+            key: Part { start: 0, len: 0 },
+            text: Part { start: 0, len: 0 },
+        },
+    };
+    let at = table + 16 * i;
+    let key = wire::word8_at(o, at) as usize;
+    let text = wire::word8_at(o, at + 8) as usize;
+    let key_len = string_len(o, key);
+    let text_len = string_len(o, text);
+    if 256 < key_len {
+        return bad;
+    }
+    if 256 < text_len {
+        return bad;
+    }
+    if key_len == 0 {
+        return bad;
+    }
+    let key_start = from + key;
+    let text_start = from + text;
+    ReadPair {
+        bad: false,
+        pair: StringPair {
+            key: Part {
+                start: key_start,
+                len: key_len,
+            },
+            text: Part {
+                start: text_start,
+                len: text_len,
+            },
+        },
+    }
+}
+
+fn no_pairs() -> [StringPair; 32]
+    ensures { λ r. ⌜ r ≡ slots 32 noPair [] ⌝ }
+{
+    let none = StringPair {
+        key: Part { start: 0, len: 0 },
+        text: Part { start: 0, len: 0 },
+    };
+    [none; 32]
+}
+
+// The n pairs of the table: bad where 16 is given for a string of one.
+fn read_pairs(o: &[u8], from: usize, table: usize, n: usize) -> ReadPairs
+    requires { ⌜ (from + length (now o) < 2 ^ 64) × ((n ≤ 32) × (table + 16 * n ≤ length (now o))) ⌝ }
+    ensures { λ r. ⌜ r ≡ readPairs from (now (o .entry)) table n ⌝ }
+{
+    let none = no_pairs();
+    let mut pairs = none;
+    let mut i = 0;
+    while i < n {
+        let p = read_pair(o, from, table, i);
+        if p.bad {
+            return ReadPairs {
+                bad: true,
+                pairs: none,
+            };
+        }
+        let pair = p.pair;
+        pairs[i] = pair;
+        i += 1;
+    }
+    ReadPairs { bad: false, pairs }
+}
+
+// An earlier pair has the key of pair i.
+fn key_before(s: &[u8], pairs: [StringPair; 32], i: usize) -> bool
+    requires { ⌜ i < 32 ⌝ }
+    ensures { λ r. ⌜ r ≡ earlier same (keyIn (now (s .entry)) pairs) i ⌝ }
+{
+    let this = pairs[i];
+    let key = bytes_at(s, this.key);
+    let mut j = 0;
+    while j < i {
+        let other = pairs[j];
+        if wire::same_bytes(bytes_at(s, other.key), key) {
+            return true;
+        }
+        j += 1;
+    }
+    false
+}
+
+// More than 32 pairs, or two of the first n have equal keys.
+pub fn bad_keys(s: &[u8], pairs: [StringPair; 32], n: usize) -> bool
+    ensures { λ r. ⌜ r ≡ badKeys (now (s .entry)) pairs n ⌝ }
+{
+    if 32 < n {
+        return true;
+    }
+    let mut i = 0;
+    while i < n {
+        if key_before(s, pairs, i) {
+            return true;
+        }
+        i += 1;
+    }
+    false
 }
