@@ -2,11 +2,13 @@
 use Prim.Native.Nat.{ℕ, _+_, _-_, _≤_, _<_}
 use native.Mathlib.Omega.{arith}
 use mathlib.Core.Path.{_≡_, refl, sym, ap, _∙_}
-use mathlib.Core.Bool.{Bool, true, false}
+use mathlib.Core.Bool.{Bool, true, false, not, _||_}
 use mathlib.Core.List.{List, []}
 use lib.ListN.{length, take, drop, length-drop, drop-of-length-le}
+use lib.Dec.{ltb, eqb}
 use lib.Seq.{length-take-le, take-all}
 use borrow.Author.Tests.{ltb-false}
+use Rattle.wire.specs.Word.{word}
 use Rattle.wire.proofs.Bools.{or-neither}
 use Rattle.wire.proofs.StopLaws.{⨾-left, ⨾-right, stopIf-no}
 use Rattle.offload_binary.specs.Binary.{bytesAt, sizeOf, entryAt, own, badSpan, binaryStop, binary, handsBack}
@@ -34,13 +36,18 @@ part-is s p = refl
 pub record Sized (b : List ℕ) : Type 0 where
   pub some : 72 ≤ sizeOf b
   pub inside : sizeOf b ≤ length b
+  pub within : entryAt b + 40 ≤ sizeOf b
+
+pub span-sized : (b : List ℕ) → badSpan b ≡ false → Sized b
+unfolding badSpan
+span-sized b f =
+    let span = or-neither (ltb (sizeOf b) 72 || ltb (length b) (sizeOf b) || not (eqb (word 8 b 24) 40) || ltb (entryAt b) 32) (ltb (sizeOf b) (entryAt b + 40)) f in
+    let size = or-neither _ _ (or-neither _ _ (or-neither _ _ (span .0) .0) .0) in
+    record { some = ltb-false _ _ (size .0); inside = ltb-false _ _ (size .1); within = ltb-false _ _ (span .1) }
 
 pub sized : (b : List ℕ) → binaryStop b .number ≡ 0 → Sized b
-unfolding binaryStop badSpan
-sized b e =
-    let span = stopIf-no 13 _ (⨾-left _ _ (⨾-right _ _ e)) in
-    let s₁ = or-neither _ _ (or-neither _ _ (or-neither _ _ (or-neither _ _ span .0) .0) .0) in
-    record { some = ltb-false _ _ (s₁ .0); inside = ltb-false _ _ (s₁ .1) }
+unfolding binaryStop
+sized b e = span-sized b (stopIf-no 13 _ (⨾-left _ _ (⨾-right _ _ e)))
 
 pub length-own : (b : List ℕ) → sizeOf b ≤ length b → length (own b) ≡ sizeOf b
 unfolding own

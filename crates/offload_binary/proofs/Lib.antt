@@ -5,4 +5,6 @@ pub mod WrittenLaws
 pub mod ReadBack
 pub mod StringLaws
 pub mod PairLaws
+pub mod HeadLaws
+pub mod BodyLaws
 pub mod Theorems

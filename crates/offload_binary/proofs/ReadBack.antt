@@ -18,7 +18,7 @@ use Rattle.wire.proofs.ByteLaws.{eq-same}
 use Rattle.wire.proofs.FirstLaws.{any-none}
 use Rattle.wire.proofs.StopLaws.{⨾-both, stopIf-go, earlier-same}
 use Rattle.offload_binary.specs.Lists.{tab, slots}
-use Rattle.offload_binary.specs.Binary.{bytesAt, run, ended, magic, sizeOf, entryAt, own, Entry, entryOf, keyAt, textAt, stringAt, pair, key, badHead, badSpan, badKinds, badTable, badString, badPair, badStrings, badImage, bodyStop, binaryStop, noPair, handsBack, binary}
+use Rattle.offload_binary.specs.Binary.{bytesAt, run, ended, magic, sizeOf, entryAt, own, entryOf, keyAt, textAt, stringAt, pair, key, badHead, badSpan, badKinds, badTable, badString, badPair, badStrings, badImage, bodyStop, binaryStop, noPair, handsBack, binary}
 use Rattle.offload_binary.specs.Reader.{limit, opened, past, nextStop, next, binariesOnly, accepted, binariesFrom, binaries}
 use Rattle.offload_binary.specs.Contents.{KeyText, noKeyText, Contents, keyText, contents, texts, stringBytes, stringsStart, stringsEnd, imageStart, imageEnd, binarySize, written, keyOf}
 use Rattle.offload_binary.specs.Theorems.{Writable, ReadsBack, laid, All, ListsBack}

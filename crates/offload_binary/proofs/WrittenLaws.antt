@@ -15,10 +15,11 @@ use Rattle.wire.specs.Stop.{earlier}
 use Rattle.wire.proofs.Bools.{or-neither}
 use Rattle.wire.proofs.WordLaws.{length-bytesOf, word-at}
 use Rattle.wire.proofs.FirstLaws.{first-is, none-any}
-use Rattle.offload_binary.specs.Binary.{magic, run, ended, sizeOf, entryAt, Entry, entryOf, badKinds}
+use Rattle.offload_binary.specs.Binary.{magic, run, ended, sizeOf, entryAt, entryOf, badKinds}
 use Rattle.offload_binary.specs.Reader.{limit}
 use Rattle.offload_binary.specs.Contents.{KeyText, noKeyText, Contents, Field, _∶_, fieldBytes, texts, stringBytes, offsets, up8, zeros, stringsStart, stringsEnd, imageStart, imageEnd, binarySize, headFields, written, keyOf, badText, badKeyTexts, tooBig}
 use Rattle.offload_binary.specs.Theorems.{Writable}
+use Rattle.offload_binary.specs.declared.Entry.{Entry}
 
 -- ---- fields
 
@@ -237,13 +238,12 @@ module _ (g : Contents) (r : List ℕ) where
 
     abbrev pub entry : Entry
     entry = record {
-      imageKind = g .imageKind;
-      offloadKind = g .offloadKind;
+      «image_kind» = g .imageKind;
+      «offload_kind» = g .offloadKind;
       flags = g .flags;
-      tableAt = 72;
+      table = 72;
       count = length (g .strings);
-      imageAt = imageStart g;
-      imageSize = length (g .image);
+      image = record { start = imageStart g; len = length (g .image) };
     }
 
     pub entry-read : entryOf body (entryAt body) ≡ entry
@@ -256,7 +256,7 @@ module _ (g : Contents) (r : List ℕ) where
         let p₄ : word 8 body 48 ≡ length (g .strings) = field-read magic (headFields g) tail₃ 8 48 (omega arith) refl (omega (arith, ok .few)) in
         let p₅ : word 8 body 56 ≡ imageStart g = field-read magic (headFields g) tail₃ 9 56 (omega arith) refl (omega (arith, ok .fits, image-end, end-eq)) in
         let p₆ : word 8 body 64 ≡ length (g .image) = field-read magic (headFields g) tail₃ 10 64 (omega arith) refl (omega (arith, ok .fits, image-end, end-eq)) in
-        rw entryAt-read (λ i. record { imageKind = p₀ i; offloadKind = p₁ i; flags = p₂ i; tableAt = p₃ i; count = p₄ i; imageAt = p₅ i; imageSize = p₆ i })
+        rw entryAt-read (λ i. record { «image_kind» = p₀ i; «offload_kind» = p₁ i; flags = p₂ i; table = p₃ i; count = p₄ i; image = record { start = p₅ i; len = p₆ i } })
 
     -- strings
     strings-fit : stringsStart (g .strings) + length (stringBytes xs) < 256 ^ 8

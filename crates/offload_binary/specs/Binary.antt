@@ -13,6 +13,7 @@ use Rattle.wire.specs.Stop.{Stop, _⨾_, stopIf, earlier}
 use Rattle.offload_binary.specs.Lists.{tab, slots}
 use Rattle.offload_binary.specs.declared.Part.{Part}
 use Rattle.offload_binary.specs.declared.StringPair.{StringPair}
+use Rattle.offload_binary.specs.declared.Entry.{Entry}
 use Rattle.offload_binary.specs.declared.Binary.{Binary}
 
 -- ---- parts and strings
@@ -45,24 +46,14 @@ own b = take (sizeOf b) b
 
 -- ---- "Entry, 40 bytes: 2-byte image kind (0 to 5), 2-byte offload kind (0 to 3), 4-byte flags (any), then 8 bytes each: string table offset, number of strings, image offset, image size."
 
-pub record Entry : Type 0 where
-  pub imageKind : ℕ
-  pub offloadKind : ℕ
-  pub flags : ℕ
-  pub tableAt : ℕ
-  pub count : ℕ
-  pub imageAt : ℕ
-  pub imageSize : ℕ
-
 unfoldable pub entryOf : List ℕ → ℕ → Entry
 entryOf o at = record {
-  imageKind = word 2 o at;
-  offloadKind = word 2 o (at + 2);
+  «image_kind» = word 2 o at;
+  «offload_kind» = word 2 o (at + 2);
   flags = word 4 o (at + 4);
-  tableAt = word 8 o (at + 8);
+  table = word 8 o (at + 8);
   count = word 8 o (at + 16);
-  imageAt = word 8 o (at + 24);
-  imageSize = word 8 o (at + 32);
+  image = record { start = word 8 o (at + 24); len = word 8 o (at + 32) };
 }
 
 -- ---- "String pair, 16 bytes: key offset, text offset. Each points to bytes ended by a zero byte before the binary's end."
@@ -117,15 +108,15 @@ unfoldable pub badStrings : List ℕ → ℕ → ℕ → Bool
 badStrings o table count = badTable (length o) table count || anyBelow count (badPair o table) || anyBelow count (earlier same (key o table))
 
 -- 17 IMAGE: "image offset under 32, or offset + size above the binary's size"
-unfoldable pub badImage : ℕ → ℕ → ℕ → Bool
-badImage size at n = ltb at 32 || ltb size (at + n)
+unfoldable pub badImage : ℕ → Part → Bool
+badImage size image = ltb (image .start) 32 || ltb size (image .start + image .len)
 
 -- 15 to 17, of a binary's own bytes and its entry
 unfoldable pub bodyStop : List ℕ → Entry → Stop
 bodyStop o e =
-    stopIf 15 (badKinds (e .imageKind) (e .offloadKind))
-    ⨾ stopIf 16 (badStrings o (e .tableAt) (e .count))
-    ⨾ stopIf 17 (badImage (length o) (e .imageAt) (e .imageSize))
+    stopIf 15 (badKinds (e .«image_kind») (e .«offload_kind»))
+    ⨾ stopIf 16 (badStrings o (e .table) (e .count))
+    ⨾ stopIf 17 (badImage (length o) (e .image))
 
 -- 13 to 17, of the bytes from a binary's first byte on
 unfoldable pub binaryStop : List ℕ → Stop
@@ -151,12 +142,12 @@ unfoldable pub handsBack : ℕ → List ℕ → Entry → Binary
 handsBack from o e = record {
   start = from;
   size = length o;
-  «image_kind» = e .imageKind;
-  «offload_kind» = e .offloadKind;
+  «image_kind» = e .«image_kind»;
+  «offload_kind» = e .«offload_kind»;
   flags = e .flags;
-  image = record { start = from + e .imageAt; len = e .imageSize };
+  image = record { start = from + e .image .start; len = e .image .len };
   count = e .count;
-  pairs = slots 32 noPair (tab (e .count) (pair from o (e .tableAt)));
+  pairs = slots 32 noPair (tab (e .count) (pair from o (e .table)));
 }
 
 -- of the bytes from the binary's first byte on

@@ -8,7 +8,7 @@ use Rattle.wire.specs.Bytes.{same}
 use Rattle.wire.specs.First.{anyBelow}
 use Rattle.wire.specs.Stop.{earlier}
 use Rattle.offload_binary.specs.Lists.{tab, slots}
-use Rattle.offload_binary.specs.Binary.{bytesAt, run, entryOf, pair, badString, badPair, bodyStop, noPair, handsBack}
+use Rattle.offload_binary.specs.Binary.{bytesAt, run, entryOf, pair, badString, badPair, badStrings, bodyStop, noPair, handsBack}
 use Rattle.offload_binary.specs.Reader.{handed, refused}
 use Rattle.offload_binary.specs.declared.StringPair.{StringPair}
 use Rattle.offload_binary.specs.declared.Binary.{Binary}
@@ -23,8 +23,14 @@ stringLen o at = cond (badString o at) 257 (run (drop at o))
 unfoldable pub readPair : ℕ → List ℕ → ℕ → ℕ → ReadPair
 readPair from o table i = cond (badPair o table i) (record { bad = true; pair = noPair }) (record { bad = false; pair = pair from o table i })
 
+abbrev pub noneRead : ReadPairs
+noneRead = record { bad = true; pairs = slots 32 noPair [] }
+
+abbrev pub pairsRead : ℕ → List ℕ → ℕ → ℕ → ReadPairs
+pairsRead from o table n = record { bad = false; pairs = slots 32 noPair (tab n (pair from o table)) }
+
 unfoldable pub readPairs : ℕ → List ℕ → ℕ → ℕ → ReadPairs
-readPairs from o table n = cond (anyBelow n (badPair o table)) (record { bad = true; pairs = slots 32 noPair [] }) (record { bad = false; pairs = slots 32 noPair (tab n (pair from o table)) })
+readPairs from o table n = cond (anyBelow n (badPair o table)) noneRead (pairsRead from o table n)
 
 -- the key of pair i of an array of them
 unfoldable pub keyIn : List ℕ → List StringPair → ℕ → List ℕ
@@ -34,7 +40,11 @@ keyIn s pairs i = bytesAt s (getD pairs i noPair .key)
 unfoldable pub badKeys : List ℕ → List StringPair → ℕ → Bool
 badKeys s pairs n = ltb 32 n || anyBelow n (earlier same (keyIn s pairs))
 
-abbrev bodyBy : ℕ → ℕ → Binary → Answer
+-- 16, and where it is not given the pairs
+unfoldable pub readStrings : ℕ → List ℕ → ℕ → ℕ → ReadPairs
+readStrings from o table count = cond (badStrings o table count) noneRead (pairsRead from o table count)
+
+abbrev pub bodyBy : ℕ → ℕ → Binary → Answer
 bodyBy zero from b = handed b
 bodyBy (suc k) from b = refused (suc k) from
 

@@ -76,9 +76,11 @@ loop-again : tie.Need-loop-again Inv-loop μ-loop
 unfolding keyIn
 loop-again c =
     let r = c .before .same-bytes in
-    let l = c .before .before .before .before .before .loop in
-    (omega arith, below-more _ _ (l .inv .1)
-    (ap₂ same (sym (c .before .before .bytes-at2 .ensures)) (sym (c .before .before .before .before .before .before .bytes-at .ensures)) ∙ sym (r .ensures) ∙ c .if1 .left))
+    let l = c .before .before .before .before .before .loop in (
+      omega arith,
+      below-more _ _ (l .inv .1)
+          (ap₂ same (sym (c .before .before .bytes-at2 .ensures)) (sym (c .before .before .before .before .before .before .bytes-at .ensures)) ∙ sym (r .ensures) ∙ c .if1 .left),
+    )
 
 -- src/lib.rt:198:1
 returns-2 : tie.Need-returns-2 Inv-loop μ-loop

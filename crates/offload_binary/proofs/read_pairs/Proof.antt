@@ -34,7 +34,7 @@ loop-holds c = (omega arith, (c .no-pairs .ensures ∙ (unfold tab in refl), λ 
 
 -- src/lib.rt:183:13
 read-pair-requires : tie.Need-read-pair-requires Inv-loop μ-loop
-read-pair-requires c κs = search needs
+read-pair-requires c κs = let a = c .before .before .before .before in (omega arith, omega (arith, a .pre .1 .1 (omega arith)))
 
 -- src/lib.rt:185:13
 returns : tie.Need-returns Inv-loop μ-loop
