@@ -17,8 +17,8 @@ use Rattle.wire.proofs.FirstLaws.{any-same, none-any}
 use Rattle.wire.proofs.StopLaws.{earlier-same}
 use Rattle.offload_binary.specs.Lists.{tab, slots}
 use Rattle.offload_binary.specs.Binary.{bytesAt, run, entryOf, keyAt, textAt, stringAt, pair, key, badKinds, badTable, badString, badPair, badStrings, badImage, bodyStop, noPair, handsBack}
-use Rattle.offload_binary.specs.Reader.{handed, refused}
-use Rattle.offload_binary.specs.Code.{noneRead, pairsRead, readPairs, keyIn, badKeys, readStrings, bodyBy, bodyAnswer}
+use Rattle.offload_binary.specs.Reader.{handed, refused, answerBy}
+use Rattle.offload_binary.specs.Code.{noneRead, pairsRead, readPairs, keyIn, badKeys, readStrings, bodyAnswer}
 use Rattle.offload_binary.specs.declared.Part.{Part}
 use Rattle.offload_binary.specs.declared.StringPair.{StringPair}
 use Rattle.offload_binary.specs.declared.Entry.{Entry}
@@ -54,10 +54,10 @@ module _ (s : List ℕ) (from size : ℕ) (inside : from + size ≤ length s) wh
       ext-getD 0 (take n (drop (from + at) s)) (take n (drop at o))
       (simp (length-take, length-drop) (omega arith))
       (λ i l.
-          let k : i < n = omega (arith, length-take n (drop (from + at) s)) in
-          let z : from + at + i ≡ from + (at + i) = omega arith in
-          getD-take n (drop (from + at) s) i 0 k ∙ getD-drop (from + at) s i 0 ∙ ap (λ x. getD s x 0) z
-          ∙ sym (getD-take n (drop at o) i 0 k ∙ getD-drop at o i 0 ∙ getD-take size (drop from s) (at + i) 0 (omega arith) ∙ getD-drop from s (at + i) 0))
+      let k : i < n = omega (arith, length-take n (drop (from + at) s)) in
+      let z : from + at + i ≡ from + (at + i) = omega arith in
+      getD-take n (drop (from + at) s) i 0 k ∙ getD-drop (from + at) s i 0 ∙ ap (λ x. getD s x 0) z
+      ∙ sym (getD-take n (drop at o) i 0 k ∙ getD-drop at o i 0 ∙ getD-take size (drop from s) (at + i) 0 (omega arith) ∙ getD-drop from s (at + i) 0))
 
   module _ (table count : ℕ) where
     -- the keys of the pairs that were read are the binary's
@@ -138,9 +138,9 @@ module _ (s : List ℕ) (from size : ℕ) (inside : from + size ≤ length s) wh
 -- ---- 15 to 17: e is the entry that was read
 
 module _ (from : ℕ) (o : List ℕ) (at : ℕ) (e : Entry) (is : e ≡ entryOf o at) where
-  body-is : (k : ℕ) (a : Answer) → bodyStop o e .number ≡ k → a ≡ bodyBy k from (handsBack from o e) → a ≡ bodyAnswer from o at
+  body-is : (k : ℕ) (a : Answer) → bodyStop o e .number ≡ k → a ≡ answerBy k from (handsBack from o e) → a ≡ bodyAnswer from o at
   unfolding bodyAnswer
-  body-is k a n q = q ∙ ap (λ j. bodyBy j from (handsBack from o e)) (sym n) ∙ ap (λ x. bodyBy (bodyStop o x .number) from (handsBack from o x)) is
+  body-is k a n q = q ∙ ap (λ j. answerBy j from (handsBack from o e)) (sym n) ∙ ap (λ x. answerBy (bodyStop o x .number) from (handsBack from o x)) is
 
   stop-kinds : badKinds (e .«image_kind») (e .«offload_kind») ≡ true → bodyStop o e .number ≡ 15
   unfolding bodyStop _⨾_ stopIf stopWhen
@@ -183,13 +183,27 @@ module _ (from : ℕ) (o : List ℕ) (at : ℕ) (e : Entry) (is : e ≡ entryOf 
 
         pub body-good : badImage size (e .image) ≡ false
             → handed (record {
-              start = from; size = size; «image_kind» = e .«image_kind»; «offload_kind» = e .«offload_kind»; flags = e .flags;
-              image = record { start = from + e .image .start; len = e .image .len }; count = e .count; pairs = r .pairs }) ≡ bodyAnswer from o at
+              start = from;
+              size = size;
+              «image_kind» = e .«image_kind»;
+              «offload_kind» = e .«offload_kind»;
+              flags = e .flags;
+              image = record { start = from + e .image .start; len = e .image .len };
+              count = e .count;
+              pairs = r .pairs;
+            }) ≡ bodyAnswer from o at
         unfolding handsBack
         body-good i =
             let p = ap (λ x. x .pairs) (strings-cases false no-strings) in
             let n = sym long in
             body-is 0 _ (stop-none no-strings (image-o ∙ i))
             (λ j. handed (record {
-              start = from; size = n j; «image_kind» = e .«image_kind»; «offload_kind» = e .«offload_kind»; flags = e .flags;
-              image = record { start = from + e .image .start; len = e .image .len }; count = e .count; pairs = p j }))
+              start = from;
+              size = n j;
+              «image_kind» = e .«image_kind»;
+              «offload_kind» = e .«offload_kind»;
+              flags = e .flags;
+              image = record { start = from + e .image .start; len = e .image .len };
+              count = e .count;
+              pairs = p j;
+            }))

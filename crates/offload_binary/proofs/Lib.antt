@@ -7,4 +7,5 @@ pub mod StringLaws
 pub mod PairLaws
 pub mod HeadLaws
 pub mod BodyLaws
+pub mod NextLaws
 pub mod Theorems

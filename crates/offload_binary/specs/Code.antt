@@ -9,9 +9,8 @@ use Rattle.wire.specs.First.{anyBelow}
 use Rattle.wire.specs.Stop.{earlier}
 use Rattle.offload_binary.specs.Lists.{tab, slots}
 use Rattle.offload_binary.specs.Binary.{bytesAt, run, entryOf, pair, badString, badPair, badStrings, bodyStop, noPair, handsBack}
-use Rattle.offload_binary.specs.Reader.{handed, refused}
+use Rattle.offload_binary.specs.Reader.{answerBy}
 use Rattle.offload_binary.specs.declared.StringPair.{StringPair}
-use Rattle.offload_binary.specs.declared.Binary.{Binary}
 use Rattle.offload_binary.specs.declared.ReadPair.{ReadPair}
 use Rattle.offload_binary.specs.declared.ReadPairs.{ReadPairs}
 use Rattle.offload_binary.specs.declared.Answer.{Answer}
@@ -44,10 +43,6 @@ badKeys s pairs n = ltb 32 n || anyBelow n (earlier same (keyIn s pairs))
 unfoldable pub readStrings : ℕ → List ℕ → ℕ → ℕ → ReadPairs
 readStrings from o table count = cond (badStrings o table count) noneRead (pairsRead from o table count)
 
-abbrev pub bodyBy : ℕ → ℕ → Binary → Answer
-bodyBy zero from b = handed b
-bodyBy (suc k) from b = refused (suc k) from
-
 -- 15 to 17 of a binary's own bytes with its entry at an offset; where none is given, what it holds
 unfoldable pub bodyAnswer : ℕ → List ℕ → ℕ → Answer
-bodyAnswer from o at = bodyBy (bodyStop o (entryOf o at) .number) from (handsBack from o (entryOf o at))
+bodyAnswer from o at = answerBy (bodyStop o (entryOf o at) .number) from (handsBack from o (entryOf o at))

@@ -40,6 +40,15 @@ handed b = record { number = 0; place = 0; binary = b }
 abbrev pub refused : ℕ → ℕ → Answer
 refused k place = record { number = k; place = place; binary = noBinary }
 
+-- the answer by a number: 0, or what refuses
+abbrev pub answerBy : ℕ → ℕ → Binary → Answer
+answerBy zero place b = handed b
+answerBy (suc k) place b = refused (suc k) place
+
+-- 13 to 17 of the binary at a position
+unfoldable pub binaryAt : List ℕ → ℕ → Answer
+binaryAt s position = answerBy (binaryStop (drop position s) .number) position (binary position (drop position s))
+
 -- "the place is the first byte not yet read (END: the length)"; "After a refusal (LENGTH at opening too) or END it stays where it is"
 abbrev stepBy : ℕ → List ℕ → Cursor → Step
 stepBy zero s c = record { answer = handed (binary (c .position) (drop (c .position) s)); cursor = past s c }

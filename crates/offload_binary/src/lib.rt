@@ -9,7 +9,7 @@ ghost use Rattle.wire.specs.First.{anyBelow};
 ghost use Rattle.wire.specs.Stop.{earlier};
 ghost use Rattle.offload_binary.specs.Lists.{slots};
 ghost use Rattle.offload_binary.specs.Binary.{bytesAt, run, noBinary, noPair, badHead, badSpan, badKinds, badTable, badImage, entryOf};
-ghost use Rattle.offload_binary.specs.Reader.{next, refused as refusal};
+ghost use Rattle.offload_binary.specs.Reader.{binaryAt, next, refused as refusal};
 ghost use Rattle.offload_binary.specs.Code.{stringLen, readPair, readPairs, keyIn, badKeys, readStrings, bodyAnswer};
 
 // A part of lent bytes: the place of its first byte, and its length.
@@ -448,6 +448,59 @@ fn read_body(s: &[u8], from: usize, size: usize, entry: usize) -> Answer
             },
             count: e.count,
             pairs,
+        },
+    }
+}
+
+// 13 to 17 of the binary at a position; where none is given, what it holds.
+pub fn binary_at(s: &[u8], position: usize) -> Answer
+    ensures { λ r. ⌜ r ≡ binaryAt (now (s .entry)) position ⌝ }
+{
+    let left = bytes_at(
+        s,
+        Part {
+            start: position,
+            len: s.len(),
+        },
+    );
+    if bad_head(left) {
+        return refused(13, position);
+    }
+    if bad_span(left) {
+        return refused(14, position);
+    }
+    let size = wire::word8_at(left, 8) as usize;
+    let entry = wire::word8_at(left, 16) as usize;
+    read_body(s, position, size, entry)
+}
+
+// What the next call of a reader answers, and where the reader then stands.
+pub fn next_at(s: &[u8], cursor: Cursor) -> Step
+    ensures { λ r. ⌜ r ≡ next (now (s .entry)) cursor ⌝ }
+{
+    let position = cursor.position;
+    let taken = cursor.taken;
+    if 1073741824 < s.len() {
+        return stopped(1, cursor);
+    }
+    if position == s.len() {
+        return stopped(19, cursor);
+    }
+    if 64 <= taken {
+        return stopped(18, cursor);
+    }
+    let answer = binary_at(s, position);
+    if answer.number != 0 {
+        return Step { answer, cursor };
+    }
+    let binary = answer.binary;
+    let next = position + binary.size;
+    let count = taken + 1;
+    Step {
+        answer,
+        cursor: Cursor {
+            position: next,
+            taken: count,
         },
     }
 }
