@@ -9,7 +9,8 @@ ghost use Rattle.wire.specs.First.{anyBelow};
 ghost use Rattle.wire.specs.Stop.{earlier};
 ghost use Rattle.offload_binary.specs.Lists.{slots};
 ghost use Rattle.offload_binary.specs.Binary.{bytesAt, run, noBinary, noPair, badHead, badSpan, badKinds, badTable, badImage, entryOf};
-ghost use Rattle.offload_binary.specs.Reader.{binaryAt, next, refused as refusal};
+ghost use Rattle.offload_binary.specs.Reader.{opened, binaryAt, next, refused as refusal};
+ghost use Rattle.offload_binary.specs.Held.{answered, moved};
 ghost use Rattle.offload_binary.specs.Code.{stringLen, readPair, readPairs, keyIn, badKeys, readStrings, bodyAnswer};
 
 // A part of lent bytes: the place of its first byte, and its length.
@@ -502,5 +503,35 @@ pub fn next_at(s: &[u8], cursor: Cursor) -> Step
             position: next,
             taken: count,
         },
+    }
+}
+
+// A reader, opened on lent bytes.
+pub struct Reader<'a> {
+    pub bytes: &'a [u8],
+    pub cursor: Cursor,
+}
+
+impl<'a> Reader<'a> {
+    // At the first byte; LENGTH is what its first call then answers, and each other.
+    pub fn open(bytes: &'a [u8]) -> Reader<'a>
+        ensures { λ r. ⌜ r ≡ record { bytes = bytes .entry; cursor = opened } ⌝ }
+    {
+        Reader {
+            bytes,
+            cursor: Cursor {
+                position: 0,
+                taken: 0,
+            },
+        }
+    }
+
+    // The next binary: the reader goes past it, or stays where it was refused or ended.
+    pub fn next(&mut self) -> Answer
+        ensures { λ a. ⌜ (a ≡ answered (now (self .entry))) × (now (self .exit) ≡ moved (now (self .entry))) ⌝ }
+    {
+        let step = next_at(self.bytes, self.cursor);
+        self.cursor = step.cursor;
+        step.answer
     }
 }
