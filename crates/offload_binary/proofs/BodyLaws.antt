@@ -1,28 +1,25 @@
 -- 15 to 17 of a binary, as code tries them one after another. Assumes nothing.
-use Prim.Native.Nat.{ℕ, zero, suc, _+_, _*_, _-_, _<_, _≤_}
+use Prim.Native.Nat.{ℕ, _+_, _-_, _<_, _≤_}
 use native.Mathlib.Omega.{arith}
 use native.Mathlib.Nat.{zero-add}
-use mathlib.Core.Path.{_≡_, refl, sym, ap, ap₂, _∙_}
+use mathlib.Core.Path.{_≡_, refl, sym, ap, _∙_}
 use mathlib.Core.Bool.{Bool, true, false, _||_, cond, or-true}
 use mathlib.Core.List.{List, []}
 use lib.ListN.{length, getD, take, drop, length-take, length-drop}
-use lib.Seq.{drop-drop, take-take, getD-take, getD-drop, ext-getD, length-take-le}
-use lib.Dec.{ltb, eqb}
+use lib.Seq.{getD-take, getD-drop, ext-getD, length-take-le}
+use lib.Dec.{ltb}
 use borrow.Author.Tests.{lt-ltb, le-ltb}
 use Rattle.wire.specs.Bytes.{same}
 use Rattle.wire.specs.First.{anyBelow}
-use Rattle.wire.specs.Stop.{Stop, _⨾_, stopIf, stopWhen, earlier}
-use Rattle.wire.proofs.Bools.{byBool, clash, or-neither, neither-or}
+use Rattle.wire.specs.Stop.{_⨾_, stopIf, stopWhen, earlier}
+use Rattle.wire.proofs.Bools.{byBool, clash, or-neither}
 use Rattle.wire.proofs.FirstLaws.{any-same, none-any}
 use Rattle.wire.proofs.StopLaws.{earlier-same}
 use Rattle.offload_binary.specs.Lists.{tab, slots}
-use Rattle.offload_binary.specs.Binary.{bytesAt, run, entryOf, keyAt, textAt, stringAt, pair, key, badKinds, badTable, badString, badPair, badStrings, badImage, bodyStop, noPair, handsBack}
-use Rattle.offload_binary.specs.Reader.{handed, refused, answerBy}
+use Rattle.offload_binary.specs.Binary.{bytesAt, run, entryOf, keyAt, textAt, stringAt, pair, key, badKinds, badTable, badString, badPair, badStrings, badImage, bodyStop, noPair, handsBack, handed, refused, answerBy}
 use Rattle.offload_binary.specs.Code.{noneRead, pairsRead, readPairs, keyIn, badKeys, readStrings, bodyAnswer}
-use Rattle.offload_binary.specs.declared.Part.{Part}
 use Rattle.offload_binary.specs.declared.StringPair.{StringPair}
 use Rattle.offload_binary.specs.declared.Entry.{Entry}
-use Rattle.offload_binary.specs.declared.Binary.{Binary}
 use Rattle.offload_binary.specs.declared.ReadPairs.{ReadPairs}
 use Rattle.offload_binary.specs.declared.Answer.{Answer}
 use Rattle.offload_binary.proofs.ListLaws.{length-tab, getD-tab, getD-slots}

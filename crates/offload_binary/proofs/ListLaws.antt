@@ -1,10 +1,10 @@
 -- Laws of lists made index by index, and of arrays of a fixed length. Assumes nothing.
-use Prim.Native.Nat.{ℕ, zero, suc, _+_, _-_, _<_, _≤_}
+use Prim.Native.Nat.{ℕ, zero, suc, _+_, _-_, _<_}
 use native.Mathlib.Omega.{arith}
 use native.Mathlib.Numerals.{add-one}
 use mathlib.Core.Path.{_≡_, refl, sym, ap, _∙_}
 use mathlib.Core.List.{List, [], _∷_, _++_, map, append-assoc}
-use lib.ListN.{length, getD, take, set, replicate, length-append, length-replicate, List·getD-append}
+use lib.ListN.{length, getD, take, set, replicate, List·getD-append}
 use lib.Seq.{take-at, set-at}
 use Rattle.offload_binary.specs.Lists.{tab, slots}
 

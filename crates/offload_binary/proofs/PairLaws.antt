@@ -1,15 +1,13 @@
 -- Laws of string pairs, as code reads them. Assumes nothing.
 use Prim.Native.Nat.{ℕ, _+_, _*_, _<_, _≤_}
-use native.Mathlib.Omega.{arith}
-use mathlib.Core.Path.{_≡_, refl, sym, ap, ap₂, _∙_}
+use mathlib.Core.Path.{_≡_, refl, sym, ap, _∙_}
 use mathlib.Core.Bool.{Bool, true, false, _||_, cond, or-true}
 use mathlib.Core.List.{List, []}
-use lib.ListN.{length, getD, drop}
-use lib.Dec.{ltb, eqb}
+use lib.ListN.{drop}
+use lib.Dec.{ltb}
 use borrow.Author.Tests.{eq-eqb, ne-eqb, le-ltb, lt-ltb}
 use Rattle.wire.specs.Word.{word}
 use Rattle.wire.specs.Bytes.{same}
-use Rattle.wire.specs.First.{anyBelow}
 use Rattle.wire.specs.Stop.{earlier}
 use Rattle.wire.proofs.Bools.{neither-or}
 use Rattle.wire.proofs.FirstLaws.{any-some, any-none}
@@ -18,7 +16,6 @@ use Rattle.offload_binary.specs.Binary.{run, keyAt, textAt, stringAt, pa
 use Rattle.offload_binary.specs.Code.{stringLen, readPair, readPairs, keyIn, badKeys}
 use Rattle.offload_binary.specs.declared.StringPair.{StringPair}
 use Rattle.offload_binary.specs.declared.ReadPair.{ReadPair}
-use Rattle.offload_binary.specs.declared.ReadPairs.{ReadPairs}
 use Rattle.offload_binary.proofs.StringLaws.{StringIs, len-bad, len-good}
 
 abbrev badRead : ReadPair

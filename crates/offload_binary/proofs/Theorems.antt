@@ -1,15 +1,12 @@
--- The theorems on sequences of offload binaries. Assumes nothing.
+-- The theorems on one offload binary. Assumes nothing.
+use mathlib.Core.Path.{ap}
 use Rattle.offload_binary.specs.Theorems.{Theorems}
-use Rattle.offload_binary.proofs.ReaderLaws.{accepted-at-end, one-after-another, reads-all, stays}
 use Rattle.offload_binary.proofs.WrittenLaws.{good}
-use Rattle.offload_binary.proofs.ReadBack.{reads-back, lists-back}
+use Rattle.offload_binary.proofs.ReadBack.{read-go, size-back, read-back}
 
 pub theorems : Theorems
 theorems = record {
-  accepted-at-end = accepted-at-end;
-  one-after-another = one-after-another;
-  reads-all = reads-all;
-  stays = stays;
-  reads-back = λ g front rest taken w few within. reads-back g front rest taken (good g w) few within;
-  lists-back = lists-back;
+  reads-back = λ g w front rest.
+      let ok = good g w in
+      record { sound = ap (λ t. t .number) (read-go g rest ok); size = size-back g rest ok; holds = read-back g rest ok front };
 }

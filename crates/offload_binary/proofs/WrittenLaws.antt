@@ -2,9 +2,9 @@
 use Prim.Native.Nat.{ℕ, zero, suc, _+_, _*_, _^_, _-_, _<_, _≤_}
 use native.Mathlib.Omega.{arith}
 use mathlib.Core.Path.{_≡_, refl, sym, ap, _∙_}
-use mathlib.Core.Bool.{Bool, true, false}
+use mathlib.Core.Bool.{false}
 use mathlib.Core.List.{List, [], _∷_, _++_, append-assoc}
-use lib.ListN.{length, getD, take, drop, replicate, length-append, length-replicate, List·getD-append}
+use lib.ListN.{length, getD, take, drop, length-append, length-replicate, List·getD-append}
 use lib.Seq.{drop-at, take-at, getD-at, split-at, drop-append-add}
 use lib.Dec.{ltb, eqb}
 use borrow.Author.Tests.{ltb-false}
@@ -16,8 +16,7 @@ use Rattle.wire.proofs.Bools.{or-neither}
 use Rattle.wire.proofs.WordLaws.{length-bytesOf, word-at}
 use Rattle.wire.proofs.FirstLaws.{first-is, none-any}
 use Rattle.offload_binary.specs.Binary.{magic, run, ended, sizeOf, entryAt, entryOf, badKinds}
-use Rattle.offload_binary.specs.Reader.{limit}
-use Rattle.offload_binary.specs.Contents.{KeyText, noKeyText, Contents, Field, _∶_, fieldBytes, texts, stringBytes, offsets, up8, zeros, stringsStart, stringsEnd, imageStart, imageEnd, binarySize, headFields, written, keyOf, badText, badKeyTexts, tooBig}
+use Rattle.offload_binary.specs.Contents.{KeyText, noKeyText, Contents, Field, _∶_, fieldBytes, texts, stringBytes, offsets, up8, zeros, stringsStart, stringsEnd, imageStart, imageEnd, binarySize, headFields, written, keyOf, badText, badKeyTexts, limit, tooBig}
 use Rattle.offload_binary.specs.Theorems.{Writable}
 use Rattle.offload_binary.specs.declared.Entry.{Entry}
 

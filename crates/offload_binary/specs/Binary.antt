@@ -1,7 +1,7 @@
 -- An offload binary: document 01's "Strip bytes" and the refusals 13 to 17 of its table. Definitions only.
 -- b is the bytes from the binary's first byte on, and o = own b the binary's own bytes.
 -- "Offsets inside a binary count from its own first byte, key and text offsets included": offsets are places in o.
-use Prim.Native.Nat.{ℕ, _+_, _*_}
+use Prim.Native.Nat.{ℕ, zero, suc, _+_, _*_}
 use mathlib.Core.Bool.{Bool, not, _&&_, _||_}
 use mathlib.Core.List.{List, [], _∷_}
 use lib.ListN.{length, getD, take, drop}
@@ -15,6 +15,7 @@ use Rattle.offload_binary.specs.declared.Part.{Part}
 use Rattle.offload_binary.specs.declared.StringPair.{StringPair}
 use Rattle.offload_binary.specs.declared.Entry.{Entry}
 use Rattle.offload_binary.specs.declared.Binary.{Binary}
+use Rattle.offload_binary.specs.declared.Answer.{Answer}
 
 -- ---- parts and strings
 
@@ -153,3 +154,22 @@ handsBack from o e = record {
 -- of the bytes from the binary's first byte on
 unfoldable pub binary : ℕ → List ℕ → Binary
 binary from b = handsBack from (own b) (entryOf (own b) (entryAt b))
+
+-- ---- the answer: numbers and places
+
+-- OK: "An accepted call has place 0"
+abbrev pub handed : Binary → Answer
+handed b = record { number = 0; place = 0; binary = b }
+
+-- "A refusal returns its number and a place .., has 0 in every other returned number"
+abbrev pub refused : ℕ → ℕ → Answer
+refused k place = record { number = k; place = place; binary = noBinary }
+
+-- the answer by a number: 0, or what refuses
+abbrev pub answerBy : ℕ → ℕ → Binary → Answer
+answerBy zero place b = handed b
+answerBy (suc k) place b = refused (suc k) place
+
+-- 13 to 17 of the binary at a position
+unfoldable pub binaryAt : List ℕ → ℕ → Answer
+binaryAt s position = answerBy (binaryStop (drop position s) .number) position (binary position (drop position s))

@@ -1,15 +1,14 @@
 -- What a binary holds, and the bytes that the binary writer writes for it. Definitions only.
-use Prim.Native.Nat.{ℕ, zero, suc, _+_, _*_, _-_, _/_}
+use Prim.Native.Nat.{ℕ, zero, _+_, _*_, _-_, _/_}
 use mathlib.Core.Bool.{Bool, _||_}
 use mathlib.Core.List.{List, [], _∷_, _++_, map}
-use lib.ListN.{length, getD, take, drop, replicate}
+use lib.ListN.{length, getD, take, replicate}
 use lib.Dec.{ltb}
 use Rattle.wire.specs.Word.{bytesOf}
 use Rattle.wire.specs.Bytes.{same, empty}
 use Rattle.wire.specs.First.{anyBelow}
 use Rattle.wire.specs.Stop.{earlier}
 use Rattle.offload_binary.specs.Binary.{magic, bytesAt, ended}
-use Rattle.offload_binary.specs.Reader.{limit}
 use Rattle.offload_binary.specs.declared.StringPair.{StringPair}
 use Rattle.offload_binary.specs.declared.Binary.{Binary}
 
@@ -111,7 +110,7 @@ written g =
     ++ (g .image
     ++ zeros (imageEnd g) (binarySize g))))))
 
--- ---- what it refuses of what a binary is to hold, beside 15
+-- ---- what the binary writer refuses of what a binary is to hold, beside 15
 
 abbrev pub noKeyText : KeyText
 noKeyText = record { key = []; text = [] }
@@ -130,6 +129,10 @@ badKeyTexts ts =
     || anyBelow (length (texts ts)) (λ j. badText (getD (texts ts) j []))
     || anyBelow (length ts) (λ i. empty (keyOf ts i))
     || anyBelow (length ts) (earlier same (keyOf ts))
+
+-- "Container or output: at most 1,073,741,824 bytes."
+abbrev pub limit : ℕ
+limit = 1073741824
 
 -- 11 BIG: "the output would be above the size limit"
 unfoldable pub tooBig : Contents → Bool

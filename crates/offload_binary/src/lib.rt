@@ -1,4 +1,4 @@
-// LLVM's offload binaries laid end to end: a cursor that reads one after another, and a reader over it.
+// One of LLVM's offload binaries: what stands at a position of lent bytes.
 ghost use mathlib.Core.Path.{_≡_};
 ghost use mathlib.Core.List.{[]};
 ghost use Prim.Native.Nat.{_+_, _*_, _^_, _<_, _≤_};
@@ -8,9 +8,7 @@ ghost use Rattle.wire.specs.Bytes.{same};
 ghost use Rattle.wire.specs.First.{anyBelow};
 ghost use Rattle.wire.specs.Stop.{earlier};
 ghost use Rattle.offload_binary.specs.Lists.{slots};
-ghost use Rattle.offload_binary.specs.Binary.{bytesAt, run, noBinary, noPair, badHead, badSpan, badKinds, badTable, badImage, entryOf};
-ghost use Rattle.offload_binary.specs.Reader.{opened, binaryAt, next, refused as refusal};
-ghost use Rattle.offload_binary.specs.Held.{answered, moved};
+ghost use Rattle.offload_binary.specs.Binary.{bytesAt, run, noBinary, noPair, badHead, badSpan, badKinds, badTable, badImage, entryOf, binaryAt, refused as refusal};
 ghost use Rattle.offload_binary.specs.Code.{stringLen, readPair, readPairs, keyIn, badKeys, readStrings, bodyAnswer};
 
 // A part of lent bytes: the place of its first byte, and its length.
@@ -47,23 +45,11 @@ pub struct Binary {
     pub pairs: [StringPair; 32],
 }
 
-// Where a reader stands: the first byte not yet read, and how many binaries it has handed back.
-pub struct Cursor {
-    pub position: usize,
-    pub taken: usize,
-}
-
 // OK and a binary; or END or a refusal, its place, and no binary.
 pub struct Answer {
     pub number: usize,
     pub place: usize,
     pub binary: Binary,
-}
-
-// What a call answers, and where the reader then stands.
-pub struct Step {
-    pub answer: Answer,
-    pub cursor: Cursor,
 }
 
 // The first four bytes of a binary.
@@ -347,7 +333,7 @@ fn no_binary() -> Binary
     }
 }
 
-fn refused(number: usize, place: usize) -> Answer
+pub fn refused(number: usize, place: usize) -> Answer
     ensures { λ r. ⌜ r ≡ refusal number place ⌝ }
 {
     let binary = no_binary();
@@ -356,13 +342,6 @@ fn refused(number: usize, place: usize) -> Answer
         place,
         binary,
     }
-}
-
-fn stopped(number: usize, cursor: Cursor) -> Step
-    ensures { λ r. ⌜ r ≡ record { answer = refusal number (cursor .position); cursor = cursor } ⌝ }
-{
-    let answer = refused(number, cursor.position);
-    Step { answer, cursor }
 }
 
 // 15: image kind above 5 or offload kind above 3.
@@ -473,65 +452,4 @@ pub fn binary_at(s: &[u8], position: usize) -> Answer
     let size = wire::word8_at(left, 8) as usize;
     let entry = wire::word8_at(left, 16) as usize;
     read_body(s, position, size, entry)
-}
-
-// What the next call of a reader answers, and where the reader then stands.
-pub fn next_at(s: &[u8], cursor: Cursor) -> Step
-    ensures { λ r. ⌜ r ≡ next (now (s .entry)) cursor ⌝ }
-{
-    let position = cursor.position;
-    let taken = cursor.taken;
-    if 1073741824 < s.len() {
-        return stopped(1, cursor);
-    }
-    if position == s.len() {
-        return stopped(19, cursor);
-    }
-    if 64 <= taken {
-        return stopped(18, cursor);
-    }
-    let answer = binary_at(s, position);
-    if answer.number != 0 {
-        return Step { answer, cursor };
-    }
-    let binary = answer.binary;
-    let next = position + binary.size;
-    let count = taken + 1;
-    Step {
-        answer,
-        cursor: Cursor {
-            position: next,
-            taken: count,
-        },
-    }
-}
-
-// A reader, opened on lent bytes.
-pub struct Reader<'a> {
-    pub bytes: &'a [u8],
-    pub cursor: Cursor,
-}
-
-impl<'a> Reader<'a> {
-    // At the first byte; LENGTH is what its first call then answers, and each other.
-    pub fn open(bytes: &'a [u8]) -> Reader<'a>
-        ensures { λ r. ⌜ r ≡ record { bytes = bytes .entry; cursor = opened } ⌝ }
-    {
-        Reader {
-            bytes,
-            cursor: Cursor {
-                position: 0,
-                taken: 0,
-            },
-        }
-    }
-
-    // The next binary: the reader goes past it, or stays where it was refused or ended.
-    pub fn next(&mut self) -> Answer
-        ensures { λ a. ⌜ (a ≡ answered (now (self .entry))) × (now (self .exit) ≡ moved (now (self .entry))) ⌝ }
-    {
-        let step = next_at(self.bytes, self.cursor);
-        self.cursor = step.cursor;
-        step.answer
-    }
 }

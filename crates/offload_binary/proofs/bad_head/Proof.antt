@@ -7,33 +7,22 @@ use Rattle.offload_binary.proofs.HeadLaws.{head-short, head-magic, head
 use borrow.Author.Needs.{needs}
 use Rattle.offload_binary.proofs.bad_head.Statement.{statement}
 use Rattle.offload_binary.proofs.bad_head.Tie as tie
-use Rattle.offload_binary.proofs.bad_head.Reads as reads
-use Rattle.offload_binary.proofs.bad_head.Lts as lts
-use Rattle.offload_binary.proofs.bytes_at.Reads as bytes-at-reads
-use Rattle.wire.proofs.same_bytes.Reads as same-bytes-reads
-use Rattle.wire.proofs.word4_at.Reads as word4-at-reads
 
--- src/lib.rt:248:9
 returns : tie.Need-returns
 returns c = let b = c .before .before .args .b .now in head-short b (c .if1 .taken)
 
--- src/lib.rt:251:25
 bytes-at-requires : tie.Need-bytes-at-requires
 bytes-at-requires c κs = search needs
 
--- src/lib.rt:251:65
 slice-aggregate-same-bytes : tie.Need-slice-aggregate-same-bytes
 slice-aggregate-same-bytes c = search needs
 
--- src/lib.rt:251:8
 same-bytes-requires : tie.Need-same-bytes-requires
 same-bytes-requires c κs = search needs
 
--- src/lib.rt:252:16
 word4-at-requires : tie.Need-word4-at-requires
 word4-at-requires c κs = search needs
 
--- src/lib.rt:252:9
 returns-2 : tie.Need-returns-2
 unfolding bytesAt
 returns-2 c =
@@ -41,7 +30,6 @@ returns-2 c =
     ap (λ x. not (eqb x 1)) (c .word4-at .ensures .0)
     ∙ head-version b (c .before .before .before .before .before .if1 .left) (ap (λ x. same x magic) (sym (c .before .before .before .before .bytes-at .ensures)) ∙ sym (c .before .before .same-bytes .ensures) ∙ c .before .if2 .taken)
 
--- src/lib.rt:244:1
 returns-3 : tie.Need-returns-3
 unfolding bytesAt
 returns-3 c =

@@ -3,19 +3,13 @@ use Rattle.offload_binary.proofs.HeadLaws.{image-low, image-end}
 use borrow.Author.Needs.{needs}
 use Rattle.offload_binary.proofs.bad_image.Statement.{statement}
 use Rattle.offload_binary.proofs.bad_image.Tie as tie
-use Rattle.offload_binary.proofs.bad_image.Reads as reads
-use Rattle.offload_binary.proofs.bad_image.Lts as lts
-use Rattle.offload_binary.proofs.passes.Reads as passes-reads
 
--- src/lib.rt:311:9
 returns : tie.Need-returns
 returns c = let a = c .before .args in image-low (a .size) (a .image) (c .if1 .taken)
 
--- src/lib.rt:313:5
 passes-requires : tie.Need-passes-requires
 passes-requires c κs = search needs
 
--- src/lib.rt:305:1
 returns-2 : tie.Need-returns-2
 returns-2 c =
     let a = c .before .before .args in c .passes .ensures ∙ image-end (a .size) (a .image) (c .before .if1 .left)

@@ -1,7 +1,7 @@
 use borrow.Author.Needs.{needs}
 use native.Mathlib.Omega.{arith}
-use Prim.Native.Nat.{ℕ, _+_, _-_, _≤_, _<_}
-use mathlib.Core.Path.{_≡_, refl, sym, ap, ap₂, _∙_}
+use Prim.Native.Nat.{ℕ, _-_, _≤_, _<_}
+use mathlib.Core.Path.{_≡_, sym, _∙_}
 use mathlib.Core.Bool.{false}
 use borrow.Author.Count.{below-more}
 use Rattle.wire.specs.Bytes.{same}
@@ -10,9 +10,6 @@ use Rattle.offload_binary.specs.Code.{keyIn}
 use Rattle.offload_binary.proofs.PairLaws.{keys-many, keys-equal, keys-differ}
 use Rattle.offload_binary.proofs.bad_keys.Statement.{statement}
 use Rattle.offload_binary.proofs.bad_keys.Tie as tie
-use Rattle.offload_binary.proofs.bad_keys.Reads as reads
-use Rattle.offload_binary.proofs.bad_keys.Lts as lts
-use Rattle.offload_binary.proofs.key_before.Reads as key-before-reads
 
 abbrev Inv-loop : tie.InvT-loop
 Inv-loop s pairs n i₀ i = (i ≤ n) × ((k : ℕ) → k < i → earlier same (keyIn s pairs) k ≡ false)
@@ -20,38 +17,30 @@ Inv-loop s pairs n i₀ i = (i ≤ n) × ((k : ℕ) → k < i → earlier same (
 abbrev μ-loop : tie.MeasureT-loop
 μ-loop s pairs n i₀ i = n - i
 
--- src/lib.rt:220:9
 returns : tie.Need-returns Inv-loop μ-loop
 returns c = let a = c .before .before .args in keys-many (a .s .now) (a .pairs) (a .n) (c .if1 .taken)
 
--- src/lib.rt:223:5
 loop-holds : tie.Need-loop-holds Inv-loop μ-loop
 loop-holds c = (omega arith, λ k h. absurd (omega arith))
 
--- src/lib.rt:224:12
 key-before-requires : tie.Need-key-before-requires Inv-loop μ-loop
 key-before-requires c κs = omega arith
 
--- src/lib.rt:225:13
 returns-2 : tie.Need-returns-2 Inv-loop μ-loop
 returns-2 c =
     let a = c .before .before .before .before .before .before .args in
     keys-equal (a .s .now) (a .pairs) (a .n) (omega arith) (c .before .before .before .loop .i) (omega arith) (sym (c .before .key-before .ensures) ∙ c .if2 .taken)
 
--- src/lib.rt:227:9
 add-i : tie.Need-add-i Inv-loop μ-loop
 add-i c = search needs
 
--- src/lib.rt:223:5
 loop-less : tie.Need-loop-less Inv-loop μ-loop
 loop-less c = search needs
 
--- src/lib.rt:223:5
 loop-again : tie.Need-loop-again Inv-loop μ-loop
 loop-again c =
     (omega arith, below-more _ _ (c .before .before .before .loop .inv .1) (sym (c .before .key-before .ensures) ∙ c .if2 .left))
 
--- src/lib.rt:216:1
 returns-3 : tie.Need-returns-3 Inv-loop μ-loop
 returns-3 c =
     let a = c .before .before .before .before .args in

@@ -1,14 +1,10 @@
 use Rattle.offload_binary.proofs.BodyLaws.{kinds-image, kinds-offload}
 use Rattle.offload_binary.proofs.bad_kinds.Statement.{statement}
 use Rattle.offload_binary.proofs.bad_kinds.Tie as tie
-use Rattle.offload_binary.proofs.bad_kinds.Reads as reads
-use Rattle.offload_binary.proofs.bad_kinds.Lts as lts
 
--- src/lib.rt:372:9
 returns : tie.Need-returns
 returns c = let a = c .before .args in kinds-image (a .image) (a .offload) (c .if1 .taken)
 
--- src/lib.rt:368:1
 returns-2 : tie.Need-returns-2
 returns-2 c = let a = c .before .args in kinds-offload (a .image) (a .offload) (c .if1 .left)
 

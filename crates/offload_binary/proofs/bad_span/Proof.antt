@@ -1,54 +1,41 @@
-use mathlib.Core.Path.{sym, ap, _∙_}
+use mathlib.Core.Path.{sym, _∙_}
 use Rattle.offload_binary.proofs.HeadLaws.{span-small, span-large, span-entry, span-low, span-end}
 use borrow.Author.Needs.{needs}
 use Rattle.offload_binary.proofs.bad_span.Statement.{statement}
 use Rattle.offload_binary.proofs.bad_span.Tie as tie
-use Rattle.offload_binary.proofs.bad_span.Reads as reads
-use Rattle.offload_binary.proofs.bad_span.Lts as lts
-use Rattle.offload_binary.proofs.passes.Reads as passes-reads
-use Rattle.wire.proofs.word8_at.Reads as word8-at-reads
 
--- src/lib.rt:271:16
 word8-at-requires : tie.Need-word8-at-requires
 word8-at-requires c κs = search needs
 
--- src/lib.rt:272:17
 word8-at-requires-2 : tie.Need-word8-at-requires-2
 word8-at-requires-2 c κs = search needs
 
--- src/lib.rt:274:9
 returns : tie.Need-returns
 returns c =
     let p = c .before in
     span-small (p .before .before .before .args .b .now) (p .before .word8-at .result) (p .word8-at2 .result) (p .before .word8-at .ensures) (p .word8-at2 .ensures) (c .if1 .taken)
 
--- src/lib.rt:277:9
 returns-2 : tie.Need-returns-2
 returns-2 c =
     let p = c .before .before in
     span-large (p .before .before .before .args .b .now) (p .before .word8-at .result) (p .word8-at2 .result) (p .before .word8-at .ensures) (p .word8-at2 .ensures) (c .before .if1 .left) (c .if2 .taken)
 
--- src/lib.rt:279:8
 word8-at-requires-3 : tie.Need-word8-at-requires-3
 word8-at-requires-3 c κs = search needs
 
--- src/lib.rt:280:9
 returns-3 : tie.Need-returns-3
 returns-3 c =
     let p = c .before .before .before .before in
     span-entry (p .before .before .before .args .b .now) (p .before .word8-at .result) (p .word8-at2 .result) (p .before .word8-at .ensures) (p .word8-at2 .ensures) (c .before .before .before .if1 .left) (c .before .before .if2 .left) (λ e. c .if3 .taken (c .before .word8-at3 .ensures ∙ e))
 
--- src/lib.rt:283:9
 returns-4 : tie.Need-returns-4
 returns-4 c =
     let p = c .before .before .before .before .before in
     span-low (p .before .before .before .args .b .now) (p .before .word8-at .result) (p .word8-at2 .result) (p .before .word8-at .ensures) (p .word8-at2 .ensures) (c .before .before .before .before .if1 .left) (c .before .before .before .if2 .left) (sym (c .before .before .word8-at3 .ensures) ∙ c .before .if3 .left) (c .if4 .taken)
 
--- src/lib.rt:285:5
 passes-requires : tie.Need-passes-requires
 passes-requires c κs = search needs
 
--- src/lib.rt:268:1
 returns-5 : tie.Need-returns-5
 returns-5 c =
     let p = c .before .before .before .before .before .before in

@@ -3,32 +3,23 @@ use Rattle.offload_binary.proofs.HeadLaws.{table-many, table-none, tabl
 use borrow.Author.Needs.{needs}
 use Rattle.offload_binary.proofs.bad_table.Statement.{statement}
 use Rattle.offload_binary.proofs.bad_table.Tie as tie
-use Rattle.offload_binary.proofs.bad_table.Reads as reads
-use Rattle.offload_binary.proofs.bad_table.Lts as lts
-use Rattle.offload_binary.proofs.passes.Reads as passes-reads
 
--- src/lib.rt:293:9
 returns : tie.Need-returns
 returns c = let a = c .before .args in table-many (a .size) (a .table) (a .count) (c .if1 .taken)
 
--- src/lib.rt:296:9
 returns-2 : tie.Need-returns-2
 returns-2 c = let a = c .before .before .args in table-none (a .size) (a .table) (a .count) (c .if2 .taken)
 
--- src/lib.rt:299:9
 returns-3 : tie.Need-returns-3
 returns-3 c =
     let a = c .before .before .before .args in table-low (a .size) (a .table) (a .count) (c .before .before .if1 .left) (c .before .if2 .left) (c .if3 .taken)
 
--- src/lib.rt:301:25
 mul-passes : tie.Need-mul-passes
 mul-passes c = search needs
 
--- src/lib.rt:301:5
 passes-requires : tie.Need-passes-requires
 passes-requires c κs = search needs
 
--- src/lib.rt:289:1
 returns-4 : tie.Need-returns-4
 returns-4 c =
     let a = c .before .before .before .before .args in c .passes .ensures ∙ table-end (a .size) (a .table) (a .count) (c .before .before .before .if1 .left) (c .before .before .if2 .left) (c .before .if3 .left)

@@ -11,8 +11,6 @@ use Rattle.wire.proofs.FirstLaws.{first-is, first-none}
 use Rattle.offload_binary.specs.Binary.{run}
 use Rattle.offload_binary.proofs.before_zero.Statement.{statement}
 use Rattle.offload_binary.proofs.before_zero.Tie as tie
-use Rattle.offload_binary.proofs.before_zero.Reads as reads
-use Rattle.offload_binary.proofs.before_zero.Lts as lts
 
 abbrev Inv-loop : tie.InvT-loop
 Inv-loop t i₀ i = (i ≤ length t) × ((k : ℕ) → k < i → eqb (getD t k 0) 0 ≡ false)

@@ -1,33 +1,20 @@
 use mathlib.Core.Path.{sym, ap, _∙_}
-use lib.ListN.{take, drop}
 use Rattle.wire.specs.Word.{word}
 use Rattle.offload_binary.specs.Binary.{badHead, badSpan}
-use Rattle.offload_binary.proofs.NextLaws.{left-is, at-head, at-span, inside, at-body}
+use Rattle.offload_binary.proofs.AtLaws.{left-is, at-head, at-span, inside, at-body}
 use borrow.Author.Needs.{needs}
 use Rattle.offload_binary.proofs.binary_at.Statement.{statement}
 use Rattle.offload_binary.proofs.binary_at.Tie as tie
-use Rattle.offload_binary.proofs.binary_at.Reads as reads
-use Rattle.offload_binary.proofs.binary_at.Lts as lts
-use Rattle.offload_binary.proofs.bad_head.Reads as bad-head-reads
-use Rattle.offload_binary.proofs.bad_span.Reads as bad-span-reads
-use Rattle.offload_binary.proofs.bytes_at.Reads as bytes-at-reads
-use Rattle.offload_binary.proofs.read_body.Reads as read-body-reads
-use Rattle.offload_binary.proofs.refused.Reads as refused-reads
-use Rattle.wire.proofs.word8_at.Reads as word8-at-reads
 
--- src/lib.rt:459:9
 bytes-at-requires : tie.Need-bytes-at-requires
 bytes-at-requires c κs = search needs
 
--- src/lib.rt:466:8
 bad-head-requires : tie.Need-bad-head-requires
 bad-head-requires c κs = search needs
 
--- src/lib.rt:467:9
 refused-requires : tie.Need-refused-requires
 refused-requires c κs = search needs
 
--- src/lib.rt:467:9
 returns : tie.Need-returns
 returns c =
     let p = c .before .before in
@@ -35,15 +22,12 @@ returns c =
     let left = left-is (a .s .now) (a .position) (p .before .bytes-at .result .now) (p .before .bytes-at .ensures) in
     c .refused .ensures ∙ at-head (a .s .now) (a .position) (sym (ap badHead left) ∙ sym (p .bad-head .ensures) ∙ c .before .if1 .taken)
 
--- src/lib.rt:469:8
 bad-span-requires : tie.Need-bad-span-requires
 bad-span-requires c κs = search needs
 
--- src/lib.rt:470:9
 refused-requires-2 : tie.Need-refused-requires-2
 refused-requires-2 c κs = search needs
 
--- src/lib.rt:470:9
 returns-2 : tie.Need-returns-2
 returns-2 c =
     let p = c .before .before .before .before in
@@ -51,15 +35,12 @@ returns-2 c =
     let left = left-is (a .s .now) (a .position) (p .before .bytes-at .result .now) (p .before .bytes-at .ensures) in
     c .refused2 .ensures ∙ at-span (a .s .now) (a .position) (sym (ap badHead left) ∙ sym (p .bad-head .ensures) ∙ c .before .before .before .if1 .left) (sym (ap badSpan left) ∙ sym (c .before .before .bad-span .ensures) ∙ c .before .if2 .taken)
 
--- src/lib.rt:472:16
 word8-at-requires : tie.Need-word8-at-requires
 word8-at-requires c κs = search needs
 
--- src/lib.rt:473:17
 word8-at-requires-2 : tie.Need-word8-at-requires-2
 word8-at-requires-2 c κs = search needs
 
--- src/lib.rt:474:5
 read-body-requires : tie.Need-read-body-requires
 read-body-requires c κs =
     let p = c .before .before .before .before .before in
@@ -67,7 +48,6 @@ read-body-requires c κs =
     let left = left-is (a .s .now) (a .position) (p .before .bytes-at .result .now) (p .before .bytes-at .ensures) in
     inside (a .s .now) (a .position) (sym (ap badHead left) ∙ sym (p .bad-head .ensures) ∙ c .before .before .before .before .if1 .left) (sym (ap badSpan left) ∙ sym (c .before .before .before .bad-span .ensures) ∙ c .before .before .if2 .left) (c .before .word8-at .result) (c .word8-at2 .result) (c .before .word8-at .ensures ∙ ap (λ x. word 8 x 8) left) (c .word8-at2 .ensures ∙ ap (λ x. word 8 x 16) left)
 
--- src/lib.rt:456:1
 returns-3 : tie.Need-returns-3
 returns-3 c =
     let p = c .before .before .before .before .before .before in

@@ -6,38 +6,28 @@ use Rattle.offload_binary.proofs.BinaryLaws.{rest-is, part-none, part-r
 use borrow.Author.Needs.{needs}
 use Rattle.offload_binary.proofs.bytes_at.Statement.{statement}
 use Rattle.offload_binary.proofs.bytes_at.Tie as tie
-use Rattle.offload_binary.proofs.bytes_at.Reads as reads
-use Rattle.offload_binary.proofs.bytes_at.Lts as lts
 
--- src/lib.rt:67:9
 slice-aggregate-result : tie.Need-slice-aggregate-result
 slice-aggregate-result c = search needs
 
--- src/lib.rt:67:9
 returns : tie.Need-returns
 returns c = let a = c .before .before .args in part-none (a .s .now) (a .part) (c .before .if1 .taken)
 
--- src/lib.rt:69:16
 sub-rest : tie.Need-sub-rest
 sub-rest c = search needs
 
--- src/lib.rt:69:16
 part-rest-start : tie.Need-part-rest-start
 part-rest-start c = search needs
 
--- src/lib.rt:69:16
 part-rest-end : tie.Need-part-rest-end
 part-rest-end c = search needs
 
--- src/lib.rt:71:9
 returns-2 : tie.Need-returns-2
 returns-2 c = let a = c .before .before .before .args in rest-is (a .part .start) (a .s .now) ∙ part-rest (a .s .now) (a .part) (omega arith)
 
--- src/lib.rt:73:5
 slice-aggregate-result-2 : tie.Need-slice-aggregate-result-2
 slice-aggregate-result-2 c = let a = c .before .before .before .before .args in sym (ap (λ l. length (take (a .part .len) l)) (rest-is (a .part .start) (a .s .now)) ∙ length-take-le (a .part .len) (drop (a .part .start) (a .s .now)) (omega (arith, length-drop (a .part .start) (a .s .now))))
 
--- src/lib.rt:61:1
 returns-3 : tie.Need-returns-3
 returns-3 c = let a = c .before .before .before .before .args in ap (take (a .part .len)) (rest-is (a .part .start) (a .s .now)) ∙ part-is (a .s .now) (a .part)
 

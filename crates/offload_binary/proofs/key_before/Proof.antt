@@ -1,7 +1,7 @@
 use borrow.Author.Needs.{needs}
 use native.Mathlib.Omega.{arith}
-use Prim.Native.Nat.{ℕ, _+_, _-_, _≤_, _<_}
-use mathlib.Core.Path.{_≡_, refl, sym, ap, ap₂, _∙_}
+use Prim.Native.Nat.{ℕ, _-_, _≤_, _<_}
+use mathlib.Core.Path.{_≡_, sym, ap₂, _∙_}
 use mathlib.Core.Bool.{false}
 use borrow.Author.Count.{below-more}
 use Rattle.wire.specs.Bytes.{same}
@@ -10,10 +10,6 @@ use Rattle.wire.proofs.FirstLaws.{any-some, any-none}
 use Rattle.offload_binary.specs.Code.{keyIn}
 use Rattle.offload_binary.proofs.key_before.Statement.{statement}
 use Rattle.offload_binary.proofs.key_before.Tie as tie
-use Rattle.offload_binary.proofs.key_before.Reads as reads
-use Rattle.offload_binary.proofs.key_before.Lts as lts
-use Rattle.offload_binary.proofs.bytes_at.Reads as bytes-at-reads
-use Rattle.wire.proofs.same_bytes.Reads as same-bytes-reads
 
 abbrev Inv-loop : tie.InvT-loop
 Inv-loop s i pairs key j₀ j = (j ≤ i) × ((k : ℕ) → k < j → same (keyIn s pairs k) (keyIn s pairs i) ≡ false)
@@ -21,39 +17,30 @@ Inv-loop s i pairs key j₀ j = (j ≤ i) × ((k : ℕ) → k < j → same (keyI
 abbrev μ-loop : tie.MeasureT-loop
 μ-loop s i pairs key j₀ j = i - j
 
--- src/lib.rt:202:16
 mul-this : tie.Need-mul-this Inv-loop μ-loop
 mul-this c = omega arith
 
--- src/lib.rt:202:16
 array-copy-out-this : tie.Need-array-copy-out-this Inv-loop μ-loop
 array-copy-out-this c = omega arith
 
--- src/lib.rt:203:9
 bytes-at-requires : tie.Need-bytes-at-requires Inv-loop μ-loop
 bytes-at-requires c κs = search needs
 
--- src/lib.rt:205:5
 loop-holds : tie.Need-loop-holds Inv-loop μ-loop
 loop-holds c = (omega arith, λ k h. absurd (omega arith))
 
--- src/lib.rt:206:21
 mul-other : tie.Need-mul-other Inv-loop μ-loop
 mul-other c = omega arith
 
--- src/lib.rt:206:21
 array-copy-out-other : tie.Need-array-copy-out-other Inv-loop μ-loop
 array-copy-out-other c = omega arith
 
--- src/lib.rt:207:29
 bytes-at-requires-2 : tie.Need-bytes-at-requires-2 Inv-loop μ-loop
 bytes-at-requires-2 c κs = search needs
 
--- src/lib.rt:207:12
 same-bytes-requires : tie.Need-same-bytes-requires Inv-loop μ-loop
 same-bytes-requires c κs = search needs
 
--- src/lib.rt:208:13
 returns : tie.Need-returns Inv-loop μ-loop
 unfolding earlier keyIn
 returns c =
@@ -63,15 +50,12 @@ returns c =
     sym (any-some (a .i) (λ k. same (keyIn (a .s .now) (a .t2) k) (keyIn (a .s .now) (a .t2) (a .i))) j (omega arith)
     (ap₂ same (sym (c .before .before .bytes-at2 .ensures)) (sym (c .before .before .before .before .before .before .bytes-at .ensures)) ∙ sym (r .ensures) ∙ c .if1 .taken))
 
--- src/lib.rt:210:9
 add-j : tie.Need-add-j Inv-loop μ-loop
 add-j c = search needs
 
--- src/lib.rt:205:5
 loop-less : tie.Need-loop-less Inv-loop μ-loop
 loop-less c = search needs
 
--- src/lib.rt:205:5
 loop-again : tie.Need-loop-again Inv-loop μ-loop
 unfolding keyIn
 loop-again c =
@@ -82,7 +66,6 @@ loop-again c =
           (ap₂ same (sym (c .before .before .bytes-at2 .ensures)) (sym (c .before .before .before .before .before .before .bytes-at .ensures)) ∙ sym (r .ensures) ∙ c .if1 .left),
     )
 
--- src/lib.rt:198:1
 returns-2 : tie.Need-returns-2 Inv-loop μ-loop
 unfolding earlier
 returns-2 c =

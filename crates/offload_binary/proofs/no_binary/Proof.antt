@@ -3,15 +3,10 @@ use Rattle.offload_binary.specs.Binary.{noPart}
 use borrow.Author.Needs.{needs}
 use Rattle.offload_binary.proofs.no_binary.Statement.{statement}
 use Rattle.offload_binary.proofs.no_binary.Tie as tie
-use Rattle.offload_binary.proofs.no_binary.Reads as reads
-use Rattle.offload_binary.proofs.no_binary.Lts as lts
-use Rattle.offload_binary.proofs.no_pairs.Reads as no-pairs-reads
 
--- src/lib.rt:332:9
 no-pairs-requires : tie.Need-no-pairs-requires
 no-pairs-requires c κs = search needs
 
--- src/lib.rt:329:1
 returns : tie.Need-returns
 returns c =
     ap (λ l. record { start = 0; size = 0; «image_kind» = 0; «offload_kind» = 0; flags = 0; image = noPart; count = 0; pairs = l }) (c .no-pairs .ensures)

@@ -1,14 +1,10 @@
 use Rattle.offload_binary.proofs.HeadLaws.{passes-first, passes-then}
 use Rattle.offload_binary.proofs.passes.Statement.{statement}
 use Rattle.offload_binary.proofs.passes.Tie as tie
-use Rattle.offload_binary.proofs.passes.Reads as reads
-use Rattle.offload_binary.proofs.passes.Lts as lts
 
--- src/lib.rt:262:9
 returns : tie.Need-returns
 returns c = let a = c .before .args in passes-first (a .size) (a .at) (a .n) (c .if1 .taken)
 
--- src/lib.rt:258:1
 returns-2 : tie.Need-returns-2
 returns-2 c = let a = c .before .args in passes-then (a .size) (a .at) (a .n) (c .if1 .left)
 

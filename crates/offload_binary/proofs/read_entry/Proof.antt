@@ -1,67 +1,47 @@
-use mathlib.Core.Path.{refl}
 use Rattle.offload_binary.specs.Binary.{entryOf}
 use borrow.Author.Needs.{needs}
 use Rattle.offload_binary.proofs.read_entry.Statement.{statement}
 use Rattle.offload_binary.proofs.read_entry.Tie as tie
-use Rattle.offload_binary.proofs.read_entry.Reads as reads
-use Rattle.offload_binary.proofs.read_entry.Lts as lts
-use Rattle.wire.proofs.word2_at.Reads as word2-at-reads
-use Rattle.wire.proofs.word4_at.Reads as word4-at-reads
-use Rattle.wire.proofs.word8_at.Reads as word8-at-reads
 
--- src/lib.rt:317:21
 word2-at-requires : tie.Need-word2-at-requires
 word2-at-requires c κs = search needs
 
--- src/lib.rt:318:41
 add-word2-at : tie.Need-add-word2-at
 add-word2-at c = search needs
 
--- src/lib.rt:318:23
 word2-at-requires-2 : tie.Need-word2-at-requires-2
 word2-at-requires-2 c κs = search needs
 
--- src/lib.rt:319:34
 add-word4-at : tie.Need-add-word4-at
 add-word4-at c = search needs
 
--- src/lib.rt:319:16
 word4-at-requires : tie.Need-word4-at-requires
 word4-at-requires c κs = search needs
 
--- src/lib.rt:320:34
 add-word8-at : tie.Need-add-word8-at
 add-word8-at c = search needs
 
--- src/lib.rt:320:16
 word8-at-requires : tie.Need-word8-at-requires
 word8-at-requires c κs = search needs
 
--- src/lib.rt:321:34
 add-word8-at-2 : tie.Need-add-word8-at-2
 add-word8-at-2 c = search needs
 
--- src/lib.rt:321:16
 word8-at-requires-2 : tie.Need-word8-at-requires-2
 word8-at-requires-2 c κs = search needs
 
--- src/lib.rt:323:38
 add-word8-at-3 : tie.Need-add-word8-at-3
 add-word8-at-3 c = search needs
 
--- src/lib.rt:323:20
 word8-at-requires-3 : tie.Need-word8-at-requires-3
 word8-at-requires-3 c κs = search needs
 
--- src/lib.rt:324:36
 add-word8-at-4 : tie.Need-add-word8-at-4
 add-word8-at-4 c = search needs
 
--- src/lib.rt:324:18
 word8-at-requires-4 : tie.Need-word8-at-requires-4
 word8-at-requires-4 c κs = search needs
 
--- src/lib.rt:312:1
 returns : tie.Need-returns
 unfolding entryOf
 returns c =

@@ -1,10 +1,9 @@
 use borrow.Author.Needs.{needs}
 use native.Mathlib.Omega.{arith}
-use Prim.Native.Nat.{ℕ, _+_, _-_, _≤_, _<_}
+use Prim.Native.Nat.{ℕ, _-_, _≤_, _<_}
 use mathlib.Core.Path.{_≡_, refl, sym, ap, ap₂, _∙_}
 use mathlib.Core.Bool.{false}
-use mathlib.Core.List.{[]}
-use lib.ListN.{length, set}
+use lib.ListN.{set}
 use borrow.Author.Count.{below-more}
 use Rattle.offload_binary.specs.Lists.{tab, slots}
 use Rattle.offload_binary.specs.Binary.{pair, badPair, noPair}
@@ -12,10 +11,6 @@ use Rattle.offload_binary.proofs.ListLaws.{slots-next}
 use Rattle.offload_binary.proofs.PairLaws.{read-bad, read-is, pairs-bad, pairs-good}
 use Rattle.offload_binary.proofs.read_pairs.Statement.{statement}
 use Rattle.offload_binary.proofs.read_pairs.Tie as tie
-use Rattle.offload_binary.proofs.read_pairs.Reads as reads
-use Rattle.offload_binary.proofs.read_pairs.Lts as lts
-use Rattle.offload_binary.proofs.no_pairs.Reads as no-pairs-reads
-use Rattle.offload_binary.proofs.read_pair.Reads as read-pair-reads
 
 abbrev Inv-loop : tie.InvT-loop
 Inv-loop o from table n none pairs₀ i₀ pairs i =
@@ -24,19 +19,15 @@ Inv-loop o from table n none pairs₀ i₀ pairs i =
 abbrev μ-loop : tie.MeasureT-loop
 μ-loop o from table n none pairs₀ i₀ pairs i = n - i
 
--- src/lib.rt:179:9
 no-pairs-requires : tie.Need-no-pairs-requires Inv-loop μ-loop
 no-pairs-requires c κs = search needs
 
--- src/lib.rt:182:5
 loop-holds : tie.Need-loop-holds Inv-loop μ-loop
 loop-holds c = (omega arith, (c .no-pairs .ensures ∙ (unfold tab in refl), λ k h. absurd (omega arith)))
 
--- src/lib.rt:183:13
 read-pair-requires : tie.Need-read-pair-requires Inv-loop μ-loop
 read-pair-requires c κs = let a = c .before .before .before .before in (omega arith, omega (arith, a .pre .1 .1 (omega arith)))
 
--- src/lib.rt:185:13
 returns : tie.Need-returns Inv-loop μ-loop
 returns c =
     let a = c .before .before .before .before .before .before .args in
@@ -45,23 +36,18 @@ returns c =
     pairs-bad (a .from) (a .o .now) (a .table) (a .n) i (omega arith) (sym (read-bad (a .from) (a .o .now) (a .table) (a .n) i (r .result) (r .ensures)) ∙ c .if1 .taken)
     (c .before .before .before .before .no-pairs .result) (c .before .before .before .before .no-pairs .ensures)
 
--- src/lib.rt:191:9
 mul-pairs : tie.Need-mul-pairs Inv-loop μ-loop
 mul-pairs c = omega arith
 
--- src/lib.rt:191:9
 array-set-from-pairs : tie.Need-array-set-from-pairs Inv-loop μ-loop
 array-set-from-pairs c = omega arith
 
--- src/lib.rt:192:9
 add-i : tie.Need-add-i Inv-loop μ-loop
 add-i c = search needs
 
--- src/lib.rt:182:5
 loop-less : tie.Need-loop-less Inv-loop μ-loop
 loop-less c = search needs
 
--- src/lib.rt:182:5
 loop-again : tie.Need-loop-again Inv-loop μ-loop
 loop-again c =
     let a = c .before .before .before .before .before .before .before .args in
@@ -71,7 +57,6 @@ loop-again c =
     let p = read-is (a .from) (a .o .now) (a .table) (a .n) (l .i) (r .result) (r .ensures) f in
     (omega arith, (ap₂ (λ x y. set x (l .i) y) (l .inv .1 .0) p ∙ slots-next 32 noPair (pair (a .from) (a .o .now) (a .table)) (l .i) (omega arith), below-more _ _ (l .inv .1 .1) f))
 
--- src/lib.rt:175:1
 returns-2 : tie.Need-returns-2 Inv-loop μ-loop
 returns-2 c =
     let a = c .before .before .before .before .args in

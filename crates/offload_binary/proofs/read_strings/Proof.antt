@@ -8,34 +8,22 @@ use Rattle.offload_binary.proofs.BodyLaws.{length-o, strings-table, str
 use borrow.Author.Needs.{needs}
 use Rattle.offload_binary.proofs.read_strings.Statement.{statement}
 use Rattle.offload_binary.proofs.read_strings.Tie as tie
-use Rattle.offload_binary.proofs.read_strings.Reads as reads
-use Rattle.offload_binary.proofs.read_strings.Lts as lts
-use Rattle.offload_binary.proofs.bad_keys.Reads as bad-keys-reads
-use Rattle.offload_binary.proofs.bad_table.Reads as bad-table-reads
-use Rattle.offload_binary.proofs.bytes_at.Reads as bytes-at-reads
-use Rattle.offload_binary.proofs.no_pairs.Reads as no-pairs-reads
-use Rattle.offload_binary.proofs.read_pairs.Reads as read-pairs-reads
 
--- src/lib.rt:382:9
 no-pairs-requires : tie.Need-no-pairs-requires
 no-pairs-requires c κs = search needs
 
--- src/lib.rt:383:8
 bad-table-requires : tie.Need-bad-table-requires
 bad-table-requires c κs = search needs
 
--- src/lib.rt:384:9
 returns : tie.Need-returns
 returns c =
     let a = c .before .before .before .before .args in
     strings-table (a .s .now) (a .from) (a .size) (c .before .before .before .before .pre) (a .table) (a .count) (sym (c .before .bad-table .ensures) ∙ c .if1 .taken)
     (c .before .before .no-pairs .result) (c .before .before .no-pairs .ensures)
 
--- src/lib.rt:389:9
 bytes-at-requires : tie.Need-bytes-at-requires
 bytes-at-requires c κs = search needs
 
--- src/lib.rt:396:9
 read-pairs-requires : tie.Need-read-pairs-requires
 unfolding bytesAt
 read-pairs-requires c κs =
@@ -44,7 +32,6 @@ read-pairs-requires c κs =
     let long = ap length (c .bytes-at .ensures) ∙ length-o (a .s .now) (a .from) (a .size) (c .before .before .before .before .before .pre) in
     (omega arith, (f .few, λ h. omega (arith, f .within h)))
 
--- src/lib.rt:399:9
 returns-2 : tie.Need-returns-2
 unfolding bytesAt
 returns-2 c =
@@ -53,11 +40,9 @@ returns-2 c =
     strings-pairs (a .s .now) (a .from) (a .size) (c .before .before .before .before .before .before .before .before .pre) (a .table) (a .count) (sym (c .before .before .before .before .before .bad-table .ensures) ∙ c .before .before .before .before .if1 .left) (r .result)
     (r .ensures ∙ ap (λ o. readPairs (a .from) o (a .table) (a .count)) (c .before .before .before .bytes-at .ensures)) (c .if2 .taken)
 
--- src/lib.rt:401:8
 bad-keys-requires : tie.Need-bad-keys-requires
 bad-keys-requires c κs = search needs
 
--- src/lib.rt:402:9
 returns-3 : tie.Need-returns-3
 unfolding bytesAt
 returns-3 c =
@@ -66,7 +51,6 @@ returns-3 c =
     strings-keys (a .s .now) (a .from) (a .size) (c .before .before .before .before .before .before .before .before .before .before .pre) (a .table) (a .count) (sym (c .before .before .before .before .before .before .before .bad-table .ensures) ∙ c .before .before .before .before .before .before .if1 .left) (r .result)
     (r .ensures ∙ ap (λ o. readPairs (a .from) o (a .table) (a .count)) (c .before .before .before .before .before .bytes-at .ensures)) (c .before .before .if2 .left) (sym (c .before .bad-keys .ensures) ∙ c .if3 .taken) (c .before .before .before .before .before .before .before .before .no-pairs .result) (c .before .before .before .before .before .before .before .before .no-pairs .ensures)
 
--- src/lib.rt:378:1
 returns-4 : tie.Need-returns-4
 unfolding bytesAt
 returns-4 c =

@@ -2,15 +2,10 @@ use mathlib.Core.Path.{ap}
 use borrow.Author.Needs.{needs}
 use Rattle.offload_binary.proofs.refused.Statement.{statement}
 use Rattle.offload_binary.proofs.refused.Tie as tie
-use Rattle.offload_binary.proofs.refused.Reads as reads
-use Rattle.offload_binary.proofs.refused.Lts as lts
-use Rattle.offload_binary.proofs.no_binary.Reads as no-binary-reads
 
--- src/lib.rt:348:9
 no-binary-requires : tie.Need-no-binary-requires
 no-binary-requires c κs = search needs
 
--- src/lib.rt:345:1
 returns : tie.Need-returns
 returns c =
     let a = c .before .args in ap (λ b. record { number = a .number; place = a .place; binary = b }) (c .no-binary .ensures)

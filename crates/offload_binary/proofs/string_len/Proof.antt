@@ -2,31 +2,22 @@ use Rattle.offload_binary.proofs.StringLaws.{len-low, len-open, len-is}
 use borrow.Author.Needs.{needs}
 use Rattle.offload_binary.proofs.string_len.Statement.{statement}
 use Rattle.offload_binary.proofs.string_len.Tie as tie
-use Rattle.offload_binary.proofs.string_len.Reads as reads
-use Rattle.offload_binary.proofs.string_len.Lts as lts
-use Rattle.offload_binary.proofs.before_zero.Reads as before-zero-reads
-use Rattle.offload_binary.proofs.bytes_at.Reads as bytes-at-reads
 
--- src/lib.rt:95:9
 returns : tie.Need-returns
 returns c = let a = c .before .before .args in len-low (a .o .now) (a .at) (c .if1 .taken)
 
--- src/lib.rt:97:9
 bytes-at-requires : tie.Need-bytes-at-requires
 bytes-at-requires c κs = search needs
 
--- src/lib.rt:98:9
 before-zero-requires : tie.Need-before-zero-requires
 before-zero-requires c κs = search needs
 
--- src/lib.rt:100:9
 returns-2 : tie.Need-returns-2
 returns-2 c =
     let a = c .before .before .before .before .before .args in
     let part = c .before .before .bytes-at in
     len-open (a .o .now) (a .at) (part .result .now) (c .before .before-zero .result) (part .ensures) (c .before .before-zero .ensures) (c .if2 .taken)
 
--- src/lib.rt:91:1
 returns-3 : tie.Need-returns-3
 returns-3 c =
     let a = c .before .before .before .before .before .args in

@@ -1,59 +1,46 @@
 use native.Mathlib.Omega.{arith}
 use mathlib.Core.Path.{_∙_}
-use Rattle.offload_binary.proofs.NextLaws.{call-length, call-end, call-many, call-refused, call-inside, call-good}
+use Rattle.offload_binaries.proofs.NextLaws.{call-length, call-end, call-many, call-refused, call-inside, call-good}
 use borrow.Author.Needs.{needs}
-use Rattle.offload_binary.proofs.next_at.Statement.{statement}
-use Rattle.offload_binary.proofs.next_at.Tie as tie
-use Rattle.offload_binary.proofs.next_at.Reads as reads
-use Rattle.offload_binary.proofs.next_at.Lts as lts
-use Rattle.offload_binary.proofs.binary_at.Reads as binary-at-reads
-use Rattle.offload_binary.proofs.stopped.Reads as stopped-reads
+use Rattle.offload_binaries.proofs.next_at.Statement.{statement}
+use Rattle.offload_binaries.proofs.next_at.Tie as tie
 
--- src/lib.rt:484:9
 stopped-requires : tie.Need-stopped-requires
 stopped-requires c κs = search needs
 
--- src/lib.rt:484:9
 returns : tie.Need-returns
 returns c =
     let p = c .before in
     let a = p .before .before .args in
     c .stopped .ensures ∙ call-length (a .s .now) (a .cursor) (p .if1 .taken)
 
--- src/lib.rt:487:9
 stopped-requires-2 : tie.Need-stopped-requires-2
 stopped-requires-2 c κs = search needs
 
--- src/lib.rt:487:9
 returns-2 : tie.Need-returns-2
 returns-2 c =
     let p = c .before .before in
     let a = p .before .before .args in
     c .stopped2 .ensures ∙ call-end (a .s .now) (a .cursor) (p .if1 .left) (c .before .if2 .taken)
 
--- src/lib.rt:490:9
 stopped-requires-3 : tie.Need-stopped-requires-3
 stopped-requires-3 c κs = search needs
 
--- src/lib.rt:490:9
 returns-3 : tie.Need-returns-3
 returns-3 c =
     let p = c .before .before .before in
     let a = p .before .before .args in
     c .stopped3 .ensures ∙ call-many (a .s .now) (a .cursor) (p .if1 .left) (c .before .before .if2 .left) (c .before .if3 .taken)
 
--- src/lib.rt:492:9
 binary-at-requires : tie.Need-binary-at-requires
 binary-at-requires c κs = search needs
 
--- src/lib.rt:494:9
 returns-4 : tie.Need-returns-4
 returns-4 c =
     let p = c .before .before .before .before .before in
     let a = p .before .before .args in
     call-refused (a .s .now) (a .cursor) (p .if1 .left) (c .before .before .before .before .if2 .left) (c .before .before .before .if3 .left) (c .before .before .binary-at .result) (c .before .before .binary-at .ensures) (c .if4 .taken)
 
--- src/lib.rt:497:16
 add-next : tie.Need-add-next
 add-next c =
     let p = c .before .before .before .before .before .before .before in
@@ -61,11 +48,9 @@ add-next c =
     let h = call-inside (a .s .now) (a .cursor) (p .if1 .left) (c .before .before .before .before .before .before .if2 .left) (c .before .before .before .before .before .if3 .left) (c .before .before .before .before .binary-at .result) (c .before .before .before .before .binary-at .ensures) (c .before .before .if4 .left) in
     omega arith
 
--- src/lib.rt:498:17
 add-count : tie.Need-add-count
 add-count c = search needs
 
--- src/lib.rt:478:1
 returns-5 : tie.Need-returns-5
 returns-5 c =
     let p = c .before .before .before .before .before .before .before in

@@ -6,15 +6,12 @@ use lib.ListN.{length, drop}
 use lib.Dec.{leb, ltb, eqb}
 use Rattle.wire.specs.Bytes.{empty}
 use Rattle.wire.specs.Stop.{Stop, _⨾_, stopIf}
-use Rattle.offload_binary.specs.Binary.{noBinary, sizeOf, binaryStop, binary}
+use Rattle.offload_binary.specs.Contents.{limit}
+use Rattle.offload_binary.specs.Binary.{sizeOf, binaryStop, binary, handed, refused}
 use Rattle.offload_binary.specs.declared.Binary.{Binary}
-use Rattle.offload_binary.specs.declared.Cursor.{Cursor}
+use Rattle.offload_binaries.specs.declared.Cursor.{Cursor}
 use Rattle.offload_binary.specs.declared.Answer.{Answer}
-use Rattle.offload_binary.specs.declared.Step.{Step}
-
--- "Container or output: at most 1,073,741,824 bytes."
-abbrev pub limit : ℕ
-limit = 1073741824
+use Rattle.offload_binaries.specs.declared.Step.{Step}
 
 -- "A reader is opened": at the first byte, no binary read
 abbrev pub opened : Cursor
@@ -31,23 +28,6 @@ nextStop s c =
     ⨾ stopIf 19 (eqb (c .position) (length s))
     ⨾ stopIf 18 (leb 64 (c .taken))
     ⨾ binaryStop (drop (c .position) s)
-
--- OK: "An accepted call has place 0"
-abbrev pub handed : Binary → Answer
-handed b = record { number = 0; place = 0; binary = b }
-
--- "A refusal returns its number and a place .., has 0 in every other returned number"
-abbrev pub refused : ℕ → ℕ → Answer
-refused k place = record { number = k; place = place; binary = noBinary }
-
--- the answer by a number: 0, or what refuses
-abbrev pub answerBy : ℕ → ℕ → Binary → Answer
-answerBy zero place b = handed b
-answerBy (suc k) place b = refused (suc k) place
-
--- 13 to 17 of the binary at a position
-unfoldable pub binaryAt : List ℕ → ℕ → Answer
-binaryAt s position = answerBy (binaryStop (drop position s) .number) position (binary position (drop position s))
 
 -- "the place is the first byte not yet read (END: the length)"; "After a refusal (LENGTH at opening too) or END it stays where it is"
 abbrev stepBy : ℕ → List ℕ → Cursor → Step

@@ -2,26 +2,24 @@
 use Prim.Native.Nat.{ℕ, zero, suc, _+_, _-_, _<_, _≤_}
 use native.Mathlib.Omega.{arith}
 use native.Mathlib.Nat.{add-zero, zero-add}
-use mathlib.Core.Logic.{_↔_}
-use mathlib.Core.Path.{_≡_, refl, sym, ap, ap₂, _∙_}
-use mathlib.Core.Bool.{Bool, true, false, _&&_, _||_, cond, or-true}
+use mathlib.Core.Path.{_≡_, refl, sym, ap, _∙_}
+use mathlib.Core.Bool.{Bool, true, false, or-true}
 use mathlib.Core.List.{List, [], _∷_}
 use lib.ListN.{length, getD, drop, length-drop, drop-of-length-le}
 use lib.Seq.{drop-drop}
 use lib.Dec.{leb, ltb, eqb}
 use borrow.Author.Tests.{eq-eqb, eqb-true, eqb-false, ne-eqb, le-ltb, ltb-false, le-leb, lt-leb, leb-true, leb-false}
 use Rattle.wire.specs.Bytes.{empty}
-use Rattle.wire.specs.Stop.{Stop, go, _⨾_, stopIf, stopWhen}
+use Rattle.wire.specs.Stop.{Stop, _⨾_, stopIf, stopWhen}
 use Rattle.wire.proofs.Bools.{byBool, clash, and-both, both-and}
-use Rattle.wire.proofs.StopLaws.{⨾-both, ⨾-left, ⨾-right, ⨾-next, ⨾-stop, stopIf-go, stopIf-no}
-use Rattle.offload_binary.specs.Binary.{noBinary, sizeOf, own, badHead, badSpan, bodyStop, binaryStop, binary}
-use Rattle.offload_binary.specs.Reader.{limit, opened, handed, refused, past, nextStop, next, cursorAfter, answer, binariesOnly, accepted, binariesFrom, binaries}
-use Rattle.offload_binary.specs.Theorems.{AcceptedAtEnd, OneAfterAnother, ReadsAll, Stays}
+use Rattle.wire.proofs.StopLaws.{⨾-left, ⨾-right, ⨾-next, ⨾-stop, stopIf-no}
+use Rattle.offload_binary.specs.Contents.{limit}
+use Rattle.offload_binary.specs.Binary.{handed, refused, noBinary, sizeOf, bodyStop, binaryStop, binary}
+use Rattle.offload_binaries.specs.Reader.{past, nextStop, next, cursorAfter, answer, binariesOnly, accepted, binariesFrom, binaries}
+use Rattle.offload_binaries.specs.Theorems.{AcceptedAtEnd, OneAfterAnother, ReadsAll, Stays}
 use Rattle.offload_binary.specs.declared.Binary.{Binary}
-use Rattle.offload_binary.specs.declared.Cursor.{Cursor}
-use Rattle.offload_binary.specs.declared.Answer.{Answer}
-use Rattle.offload_binary.specs.declared.Step.{Step}
-use Rattle.offload_binary.proofs.BinaryLaws.{Sized, sized, length-own, start-is, size-is}
+use Rattle.offload_binaries.specs.declared.Cursor.{Cursor}
+use Rattle.offload_binary.proofs.BinaryLaws.{sized, length-own, start-is, size-is}
 
 pub byNat : {C : Type 0} (k : ℕ) → (k ≡ 0 → C) → ((j : ℕ) → k ≡ suc j → C) → C
 byNat zero z s = z refl

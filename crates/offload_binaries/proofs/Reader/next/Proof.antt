@@ -45,27 +45,27 @@ use denote.Triple.Table.{entered, cited}
 use denote.Triple.Walked.{says, Stays, stay-ref, walkOf, goes-ref, Walks, ends-at, walked, walk-meets}
 use denote.Exit.{yes}
 use denote.Triple.Clauses.{ensured, lasts}
-use Rattle.offload_binary.specs.Reader.{next}
-use Rattle.offload_binary.specs.Held.{answered, moved}
-use Rattle.offload_binary.specs.declared.Reader.{Reader}
+use Rattle.offload_binaries.specs.Reader.{next}
+use Rattle.offload_binaries.specs.Held.{answered, moved}
+use Rattle.offload_binaries.specs.declared.Reader.{Reader}
 use Rattle.offload_binary.specs.declared.Answer.{Answer}
-use Rattle.offload_binary.specs.declared.Step.{Step}
-use Rattle.offload_binary.proofs.Reader as T
-use Rattle.offload_binary.proofs.Reader.Laws as T′
-use Rattle.offload_binary.proofs.Cursor as C
-use Rattle.offload_binary.proofs.Cursor.Laws as C′
+use Rattle.offload_binaries.specs.declared.Step.{Step}
+use Rattle.offload_binaries.proofs.Reader as T
+use Rattle.offload_binaries.proofs.Reader.Laws as T′
+use Rattle.offload_binaries.proofs.Cursor as C
+use Rattle.offload_binaries.proofs.Cursor.Laws as C′
 use Rattle.offload_binary.proofs.Answer as N
 use Rattle.offload_binary.proofs.Answer.Laws as N′
-use Rattle.offload_binary.proofs.Step as S
-use Rattle.offload_binary.proofs.Step.Laws as S′
-use Rattle.offload_binary.proofs.next_at as at′
-use Rattle.offload_binary.proofs.next_at.Symbol as at-def
-use Rattle.offload_binary.proofs.next_at.Symbol.{name as #next-at}
-use Rattle.offload_binary.proofs.next_at.Met as at-thm
-use Rattle.offload_binary.proofs.Reader.next.Key.{name as #next}
-use Rattle.offload_binary.proofs.Reader.next as this
-use Rattle.offload_binary.proofs.Reader.next.Statement as stated
-use Rattle.offload_binary.proofs.Reader.next.Code as code
+use Rattle.offload_binaries.proofs.Step as S
+use Rattle.offload_binaries.proofs.Step.Laws as S′
+use Rattle.offload_binaries.proofs.next_at as at′
+use Rattle.offload_binaries.proofs.next_at.Symbol as at-def
+use Rattle.offload_binaries.proofs.next_at.Symbol.{name as #next-at}
+use Rattle.offload_binaries.proofs.next_at.Met as at-thm
+use Rattle.offload_binaries.proofs.Reader.next.Key.{name as #next}
+use Rattle.offload_binaries.proofs.Reader.next as this
+use Rattle.offload_binaries.proofs.Reader.next.Statement as stated
+use Rattle.offload_binaries.proofs.Reader.next.Code as code
 
 -- 'a, and the struct's type and laws at it
 abbrev α : Lft → NamedLft
@@ -198,4 +198,4 @@ next-spec 𝓤 H 𝓜 𝓖 𝓡 =
     entered 𝓤 H (tripleOf 𝓤 H (𝓖 .A) this.signature (this.spec 𝓤 H (𝓖 .A) (𝓜 .mem) (𝓡 .run)))
     (tables 𝓤 H 𝓜 𝓡 code.env .C) (tables 𝓤 H 𝓜 𝓡 code.env .Λ) #next code.function (code.unfolded 𝓤 H 𝓜 𝓡)
     (next-meets 𝓤 H (𝓖 .A) (givenOf 𝓤 H 𝓜 𝓖) (𝓜 .mem) (𝓡 .run) (tablesOf 𝓤 H 𝓜 (tables 𝓤 H 𝓜 𝓡 code.env))
-    (cited 𝓤 H (NextAt 𝓤 H (𝓖 .A) (𝓜 .mem) (𝓡 .run)) 𝓜 𝓡 code.env #next-at at-def.routine code.calls-offload-binary·next-at (at-thm.met 𝓤 H 𝓜 𝓖 𝓡)))
+    (cited 𝓤 H (NextAt 𝓤 H (𝓖 .A) (𝓜 .mem) (𝓡 .run)) 𝓜 𝓡 code.env #next-at at-def.routine code.calls-offload-binaries·next-at (at-thm.met 𝓤 H 𝓜 𝓖 𝓡)))
