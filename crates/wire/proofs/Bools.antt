@@ -12,6 +12,10 @@ pub byBool : {C : Type 0} (b : Bool) → (b ≡ true → C) → (b ≡ false →
 byBool true t f = t refl
 byBool false t f = f refl
 
+pub cases : (b : Bool) → (b ≡ true) ⊎ (b ≡ false)
+cases true = inl refl
+cases false = inr refl
+
 pub clash : {C : Type 0} (b : Bool) → b ≡ true → b ≡ false → C
 clash b t f = absurd (let z : _≡_ {A = ℕ} 0 1 = cc in omega arith)
 

@@ -2,13 +2,15 @@
 use Prim.Native.Nat.{ℕ, _+_, _≤_, _<_}
 use native.Mathlib.Nat.{add-assoc}
 use native.Mathlib.Omega.{arith}
-use mathlib.Core.Path.{_≡_, refl, sym, ap, _∙_}
-use mathlib.Core.List.{List, _++_, append-assoc}
-use lib.ListN.{length, take, drop, getD, set}
-use lib.Seq.{paste, take-paste, drop-paste, drop-drop, take-add, take-length, getD-set-same, getD-set-other}
+use mathlib.Core.Path.{_≡_, sym, ap, _∙_}
+use mathlib.Core.List.{List, [], _++_, append-assoc, append-nil}
+use lib.ListN.{length, take, drop, getD, set, length-append, length-take, length-drop, take-append-drop}
+use lib.Dec.{leb}
+use lib.Seq.{length-take-le, take-at, drop-append-add, paste, take-paste, drop-paste, drop-drop, take-add, take-length, getD-set-same, getD-set-other}
 use borrow.Author.Count.{below-more}
-use borrow.Author.Tests.{le-leb, lt-leb}
+use borrow.Author.Tests.{le-leb, lt-leb, leb-true, leb-false}
 use Rattle.wire.specs.Bytes.{overwrite}
+use Rattle.wire.proofs.Bools.{byBool}
 
 pub overwrite-in : (out : List ℕ) (at : ℕ) (src : List ℕ) → at + length src ≤ length out → overwrite out at src ≡ take at out ++ src ++ drop (at + length src) out
 unfolding overwrite
@@ -17,6 +19,37 @@ overwrite-in out at src h = rw (le-leb _ _ h)
 pub overwrite-not : (out : List ℕ) (at : ℕ) (src : List ℕ) → length out < at + length src → overwrite out at src ≡ out
 unfolding overwrite
 overwrite-not out at src h = rw (lt-leb _ _ h)
+
+pub length-overwrite : (out : List ℕ) (at : ℕ) (src : List ℕ) → length (overwrite out at src) ≡ length out
+length-overwrite out at src =
+    byBool (leb (at + length src) (length out))
+    (λ t. let h = leb-true _ _ t in rw (overwrite-in out at src h) (simp (length-append, length-take, length-drop) (omega arith)))
+    (λ f. rw (overwrite-not out at src (leb-false _ _ f)))
+
+pub overwrite-nil : (out : List ℕ) (at : ℕ) → overwrite out at [] ≡ out
+overwrite-nil out at =
+    let e : at + 0 ≡ at = omega arith in
+    byBool (leb (at + 0) (length out))
+    (λ t. overwrite-in out at [] (leb-true _ _ t) ∙ rw (append-nil (take at out), e) (take-append-drop at out))
+    (λ f. overwrite-not out at [] (leb-false _ _ f))
+
+-- one part after another is both at once
+module _ (out : List ℕ) (at : ℕ) (a b : List ℕ) (room : at + length a + length b ≤ length out) where
+  front : length (take at out ++ a) ≡ at + length a
+  front = omega (arith, length-append (take at out) a, length-take-le at out (omega arith))
+
+  pub overwrite-next : overwrite (overwrite out at a) (at + length a) b ≡ overwrite out at (a ++ b)
+  overwrite-next =
+      let d = drop (at + length a) out in
+      let t : take (at + length a) (take at out ++ a ++ d) ≡ take at out ++ a = take-at (take at out ++ a) d (at + length a) front in
+      let e : at + length a + length b ≡ at + length (a ++ b) = omega (arith, length-append a b) in
+      let r : drop (at + length a + length b) (take at out ++ a ++ d) ≡ drop (at + length (a ++ b)) out =
+      ap (λ n. drop (n + length b) (take at out ++ a ++ d)) (sym front) ∙ drop-append-add (take at out ++ a) d (length b) ∙ drop-drop (length b) (at + length a) out ∙ ap (λ n. drop n out) e in
+      overwrite-in (overwrite out at a) (at + length a) b (omega (arith, length-overwrite out at a))
+      ∙ rw (overwrite-in out at a (omega arith), overwrite-in out at (a ++ b) (omega (arith, length-append a b)), t, r, append-assoc (take at out) a b)
+
+pub overwrite-then : (out : List ℕ) (at next : ℕ) (a b : List ℕ) → at + length a ≡ next → next + length b ≤ length out → overwrite (overwrite out at a) next b ≡ overwrite out at (a ++ b)
+overwrite-then out at next a b e h = ap (λ k. overwrite (overwrite out at a) k b) (sym e) ∙ overwrite-next out at a b (omega arith)
 
 -- ---- copied in parts
 

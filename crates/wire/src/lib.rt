@@ -82,12 +82,18 @@ pub fn word8_at(s: &[u8], at: usize) -> u64
     word4_at(s, at) + 0x100000000 * word4_at(s, at + 4)
 }
 
+fn blank() -> [u8; 16384]
+    ensures { λ r. ⌜ length r ≡ 16384 ⌝ }
+{
+    [0u8; 16384]
+}
+
 // Copies n bytes of `src` through a local array that is then dropped whole: the two loops compile to one memmove.
 fn copy_part(out: &mut [u8], at: usize, src: &[u8], from: usize, n: usize)
     requires { ⌜ (at + n ≤ length (now out)) × ((from + n ≤ length (now src)) × (n ≤ 16384)) ⌝ }
     ensures { λ _. ⌜ now (out .exit) ≡ paste (now (out .entry)) at (drop from (now (src .entry))) n ⌝ }
 {
-    let mut part = [0u8; 16384];
+    let mut part = blank();
     let mut k = 0;
     while k < n {
         part[k] = src[from + k];

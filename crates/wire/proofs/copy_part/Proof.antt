@@ -22,8 +22,11 @@ Inv-loop2 out₀ at src from n part k j₀ out j = (j ≤ n) × ((length part �
 abbrev μ-loop2 : tie.MeasureT-loop2
 μ-loop2 out₀ at src from n part k j₀ out j = n - j
 
+blank-requires : tie.Need-blank-requires Inv-loop μ-loop Inv-loop2 μ-loop2
+blank-requires c κs = search needs
+
 loop-holds : tie.Need-loop-holds Inv-loop μ-loop Inv-loop2 μ-loop2
-loop-holds c = (search needs, (refl, below-none _))
+loop-holds c = (search needs, (c .blank .ensures, below-none _))
 
 add-part : tie.Need-add-part Inv-loop μ-loop Inv-loop2 μ-loop2
 add-part c = omega arith
@@ -43,13 +46,13 @@ loop-less c = omega arith
 loop-again : tie.Need-loop-again Inv-loop μ-loop Inv-loop2 μ-loop2
 loop-again c =
     let l = c .before .before .loop in
-    let a = c .before .before .before .args in
+    let a = c .before .before .before .before .before .before .args in
     (omega arith, (simp length-set (l .inv .1 .0), filled (l .part) (a .src .now) (a .from) (l .k) (omega arith) (l .inv .1 .1)))
 
 loop2-holds : tie.Need-loop2-holds Inv-loop μ-loop Inv-loop2 μ-loop2
 loop2-holds c =
     let l = c .before .loop in
-    let a = c .before .before .args in
+    let a = c .before .before .before .before .before .args in
     (search needs, (l .inv .1 .0, ((λ q h. l .inv .1 .1 q (omega arith)), (paste-zero (a .out .now) (a .at) (drop (a .from) (a .src .now)), refl))))
 
 array-read-out : tie.Need-array-read-out Inv-loop μ-loop Inv-loop2 μ-loop2
@@ -70,7 +73,7 @@ loop2-less c = omega arith
 loop2-again : tie.Need-loop2-again Inv-loop μ-loop Inv-loop2 μ-loop2
 loop2-again c =
     let l = c .before .loop2 in
-    let a = c .before .before .before .before .args in
+    let a = c .before .before .before .before .before .before .before .args in
     let s = drop (a .from) (a .src .now) in
     let room : l .j < length s = rw length-drop (omega arith) in (
       omega arith,
@@ -92,7 +95,7 @@ same-length c = c .before .loop2 .inv .1 .1 .1 .1
 returns : tie.Need-returns Inv-loop μ-loop Inv-loop2 μ-loop2
 returns c =
     let l = c .before .loop2 in
-    let e : l .j ≡ c .before .before .before .before .args .n = omega arith in
+    let e : l .j ≡ c .before .before .before .before .before .before .before .args .n = omega arith in
     l .inv .1 .1 .1 .0 ∙ rw e refl
 
 pub copy-part-spec : {M : Type 1} → statement M
@@ -103,6 +106,7 @@ copy-part-spec =
     μ-loop
     Inv-loop2
     μ-loop2
+    blank-requires
     loop-holds
     add-part
     shared-slice-read-part

@@ -1,0 +1,88 @@
+-- An accepted bundle keeps each rule, and a bundle that keeps each rule is accepted. Assumes nothing.
+use Prim.Native.Nat.{ℕ, _<_, _≤_}
+use mathlib.Core.Path.{_≡_}
+use mathlib.Core.List.{List}
+use lib.ListN.{length, take}
+use borrow.Author.Tests.{ltb-false, le-ltb}
+use Rattle.wire.specs.Bytes.{same}
+use Rattle.wire.specs.Stop.{go, stopAt, earlier}
+use Rattle.wire.proofs.Bools.{or-neither, neither-or, not-no, yes-not}
+use Rattle.wire.proofs.ByteLaws.{same-true, eq-same}
+use Rattle.wire.proofs.StopLaws.{⨾-both, ⨾-left, ⨾-right, stopIf-go, stopIf-no, stopAt-go, stopAt-no, stopAt-same, earlier-same, earlier-none, none-earlier}
+use Rattle.entry_id.specs.IdRules.{IdRules}
+use Rattle.bundle.specs.Table.{Row, magic, count, rowStart}
+use Rattle.bundle.specs.Check.{outside, headStop, tableStop, rowsStop, bundleStop, badId, meanSame, mix}
+use Rattle.bundle.specs.Accepted.{Framed, Meant, Sound, Accepted}
+use Rattle.bundle.proofs.CheckLaws.{rowFits, inside}
+
+pub counted : (s : List ℕ) → headStop s .number ≡ 0 → (32 ≤ length s) × (count s ≤ 64)
+unfolding headStop
+counted s e = let o = or-neither _ _ (stopIf-no 2 _ (⨾-right _ _ (⨾-right _ _ e))) in (ltb-false _ _ (o .0), ltb-false _ _ (o .1))
+
+pub framed : (s : List ℕ) → headStop s .number ≡ 0 → tableStop s .number ≡ 0 → Framed s
+unfolding headStop tableStop
+framed s e t = record {
+  fits = ltb-false _ _ (stopIf-no 0 _ (⨾-left _ _ e));
+  magical = same-true _ _ (not-no _ (stopIf-no 1 _ (⨾-left _ _ (⨾-right _ _ e))));
+  long = counted s e .0;
+  few = counted s e .1;
+  rows = λ i h. rowFits s (rowStart s i) .0 (stopAt-no 3 _ _ t i h);
+}
+
+pub head-go : (s : List ℕ) → Framed s → headStop s ≡ go
+unfolding headStop
+head-go s f =
+    ⨾-both _ _ (stopIf-go 1 _ (le-ltb _ _ (f .fits)))
+    (⨾-both _ _ (stopIf-go 2 _ (yes-not (same (take 24 s) magic) (eq-same _ _ (f .magical))))
+    (stopIf-go 3 _ (neither-or _ _ (le-ltb _ _ (f .long)) (le-ltb _ _ (f .few)))))
+
+pub table-go : (s : List ℕ) → Framed s → tableStop s ≡ go
+unfolding tableStop
+table-go s f = stopAt-go 4 _ _ (λ i h. rowFits s (rowStart s i) .1 (f .rows i h))
+
+module _ (R : IdRules) where
+  pub meant : (n : ℕ) (rows : ℕ → Row)
+      → stopAt 5 n (λ i. badId R (rows i)) .number ≡ 0 → stopAt 7 n (earlier (meanSame R) rows) .number ≡ 0 → stopAt 8 n (earlier (mix R) rows) .number ≡ 0
+      → Meant R n rows
+  meant n rows p q r = record {
+    named = stopAt-no 4 _ _ p;
+    once = λ i h. none-earlier _ rows i (stopAt-no 6 _ _ q i h);
+    unmixed = λ i h. none-earlier _ rows i (stopAt-no 7 _ _ r i h);
+  }
+
+  pub sound : (end len n : ℕ) (rows : ℕ → Row) → rowsStop R end len n rows .number ≡ 0 → Sound R end len n rows
+  unfolding rowsStop
+  sound end len n rows e =
+      let e₂ = ⨾-right _ _ e in
+      let e₃ = ⨾-right _ _ e₂ in
+      record {
+        meant = meant n rows (⨾-left _ _ e) (⨾-left _ _ e₃) (⨾-right _ _ e₃);
+        in-range = λ i h. inside end len _ _ .0 (stopAt-no 5 _ _ (⨾-left _ _ e₂) i h);
+      }
+
+  pub sound-go : (end len n : ℕ) (rows : ℕ → Row) → Sound R end len n rows → rowsStop R end len n rows ≡ go
+  unfolding rowsStop
+  sound-go end len n rows f =
+      ⨾-both _ _ (stopAt-go 5 _ _ (f .meant .named))
+      (⨾-both _ _ (stopAt-go 6 _ _ (λ i h. inside end len _ _ .1 (f .in-range i h)))
+      (⨾-both _ _ (stopAt-go 7 _ _ (λ i h. earlier-none _ rows i (f .meant .once i h)))
+      (stopAt-go 8 _ _ (λ i h. earlier-none _ rows i (f .meant .unmixed i h)))))
+
+  -- the rows below n decide
+  pub rowsStop-same : (end len n : ℕ) (f g : ℕ → Row) → ((i : ℕ) → i < n → f i ≡ g i) → rowsStop R end len n f ≡ rowsStop R end len n g
+  unfolding rowsStop
+  rowsStop-same end len n f g h =
+      rw (
+        stopAt-same 5 n (λ i. badId R (f i)) (λ i. badId R (g i)) (λ i l. rw (h i l)),
+        stopAt-same 6 n (λ i. outside end len (f i .offset) (f i .size)) (λ i. outside end len (g i .offset) (g i .size)) (λ i l. rw (h i l)),
+        stopAt-same 7 n (earlier (meanSame R) f) (earlier (meanSame R) g) (earlier-same (meanSame R) n f g h),
+        stopAt-same 8 n (earlier (mix R) f) (earlier (mix R) g) (earlier-same (mix R) n f g h),
+      )
+
+  pub accepted : (s : List ℕ) → bundleStop R s .number ≡ 0 → Accepted R s
+  unfolding bundleStop
+  accepted s e = let e₂ = ⨾-right _ _ e in record { frame = framed s (⨾-left _ _ e) (⨾-left _ _ e₂); sense = sound _ _ _ _ (⨾-right _ _ e₂) }
+
+  pub accepted-go : (s : List ℕ) → Accepted R s → bundleStop R s ≡ go
+  unfolding bundleStop
+  accepted-go s a = ⨾-both _ _ (head-go s (a .frame)) (⨾-both _ _ (table-go s (a .frame)) (sound-go _ _ _ _ (a .sense)))

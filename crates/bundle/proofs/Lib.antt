@@ -1,0 +1,12 @@
+pub mod ListLaws
+pub mod CheckLaws
+pub mod AcceptLaws
+pub mod EntryLaws
+pub mod PickLaws
+pub mod TableLaws
+pub mod Theorems
+pub mod RowLaws
+pub mod SlotLaws
+pub mod StageLaws
+pub mod ChoiceLaws
+pub mod IdLaws

@@ -1,0 +1,70 @@
+-- Laws of the rows that the code holds. Assumes nothing.
+use Prim.Native.Nat.{ℕ, _+_, _<_, _≤_}
+use native.Mathlib.Omega.{arith}
+use native.Mathlib.Numerals.{add-one}
+use mathlib.Core.Path.{_≡_, sym, ap, _∙_}
+use mathlib.Core.Bool.{Bool, true, false}
+use mathlib.Core.List.{List}
+use borrow.Author.Count.{below-more}
+use lib.ListN.{length, take, drop, set, length-set}
+use lib.Seq.{getD-set-same, getD-set-other}
+use Rattle.wire.proofs.FirstLaws.{first-le, first-is, first-none}
+use Rattle.bundle.specs.Table.{rowStart, row, rowAt}
+use Rattle.bundle.specs.Check.{badRow}
+use Rattle.bundle.specs.Accepted.{RowFits}
+use Rattle.bundle.specs.Code.{noRow, heldRow, Rows, Tabled}
+use Rattle.bundle.specs.declared.Row.{Row}
+use Rattle.bundle.proofs.CheckLaws.{rowFits}
+
+pub fine : (s : List ℕ) (at : ℕ) (b : Bool) → b ≡ badRow s at → b ≡ false → RowFits s at
+fine s at b p q = rowFits s at .0 (sym p ∙ q)
+
+pub row-inside : (s : List ℕ) (at : ℕ) (r : Row) → r ≡ heldRow s at → RowFits s at → r .id + r .len ≤ length s
+unfolding heldRow
+row-inside s at r e f = rw e (f .id-in)
+
+-- ---- the loop that reads the rows, where it stands at the start of row i
+
+module _ (s : List ℕ) (i at : ℕ) (rows : List Row) (e : at ≡ rowStart s i) (p : Rows s i rows) where
+  -- what is read there
+  module _ (r : Row) (q : r ≡ heldRow s at) where
+    pub row-next : r .id + r .len ≡ rowStart s (i + 1)
+    unfolding heldRow rowStart
+    row-next = ap (λ z. z .id + z .len) (q ∙ ap (heldRow s) e) ∙ rw add-one
+
+    pub rows-more : i < 64 → RowFits s at → Rows s (i + 1) (set rows i r)
+    rows-more h f = record {
+      few = omega arith;
+      room = simp length-set (p .room);
+      fits = below-more _ i (p .fits) (rw e at f);
+      each = below-more _ i
+          (λ k l. getD-set-other rows i k r noRow (λ (z : k ≡ i). omega arith) ∙ p .each k l)
+          (getD-set-same rows i r noRow (omega (arith, p .room)) ∙ q ∙ ap (heldRow s) e);
+    }
+
+  passed : (k : ℕ) → k < i → badRow s (rowStart s k) ≡ false
+  passed k h = rowFits s (rowStart s k) .1 (p .fits k h)
+
+  -- the row there is bad; there is no further row
+  pub tabled-bad : (n end : ℕ) (b : Bool) → i < n → b ≡ badRow s at → b ≡ true → Tabled s n rows i end
+  tabled-bad n end b h u v = record {
+    bad-is = sym (first-is n (λ k. badRow s (rowStart s k)) i h (ap (badRow s) (sym e) ∙ sym u ∙ v) passed);
+    end-is = λ l. absurd (omega arith);
+    rows-are = p;
+  }
+
+  pub tabled-all : (n : ℕ) → i ≡ n → Tabled s n rows i at
+  tabled-all n z = record {
+    bad-is = z ∙ sym (first-none n (λ k. badRow s (rowStart s k)) (λ k h. passed k (omega arith)));
+    end-is = λ l. e ∙ ap (rowStart s) z;
+    rows-are = p;
+  }
+
+-- ---- rows that were read
+
+pub rows-all : (s : List ℕ) (n : ℕ) (rows : List Row) (bad end : ℕ) → Tabled s n rows bad end → n ≤ bad → Rows s n rows
+rows-all s n rows bad end t h = let e : bad ≡ n = omega (arith, t .bad-is, first-le n (λ i. badRow s (rowStart s i))) in rw e at (t .rows-are)
+
+pub row-id : (s : List ℕ) (k : ℕ) (r : Row) → r ≡ heldRow s (rowStart s k) → take (r .len) (drop (r .id) s) ≡ row s k .id
+unfolding heldRow row rowAt
+row-id s k r e = rw e

@@ -1,0 +1,456 @@
+// The check of a bundle, and the pick of the image for a device name.
+ghost use mathlib.Core.Path.{_≡_};
+ghost use Prim.Native.Nat.{_+_, _*_, _<_, _≤_};
+ghost use lib.ListN.{length, getD, take, drop};
+ghost use Rattle.wire.specs.Bytes.{same, overwrite};
+ghost use Rattle.wire.specs.First.{first};
+ghost use Rattle.wire.specs.Stop.{stop, earlier};
+ghost use Rattle.entry_id.specs.Rules.{idRules};
+ghost use Rattle.bundle.specs.Table.{magic, row};
+ghost use Rattle.bundle.specs.Check.{badRow, outside, headStop, rowsStop, check};
+ghost use Rattle.bundle.specs.Pick.{pick};
+ghost use Rattle.bundle.specs.Accepted.{RowFits};
+ghost use Rattle.bundle.specs.Theorems.{refusal};
+ghost use Rattle.bundle.specs.Code.{noRow, heldRow, Rows, Tabled, Room, text, Canonical, Texts, Named, relation, Judged, Examination};
+
+// What a check returns: the refusal's number and place, or 0, 0 and the entry count.
+pub struct Checked {
+    pub number: usize,
+    pub place: usize,
+    pub count: usize,
+}
+
+// What a pick returns: the refusal's number and place, or 0, 0 and the entry's index with its image's position and size.
+pub struct Picked {
+    pub number: usize,
+    pub place: usize,
+    pub index: usize,
+    pub position: u64,
+    pub size: u64,
+}
+
+// A row of the table: where the image starts, its size, where the ID starts, its length.
+struct Row {
+    offset: u64,
+    size: u64,
+    id: usize,
+    len: usize,
+}
+
+// The rows before the first bad one, which `bad` names; where none of them is bad, the table's end.
+struct Table {
+    rows: [Row; 64],
+    bad: usize,
+    end: usize,
+}
+
+// A refusal; number 0: nothing is refused.
+struct Refusal {
+    number: usize,
+    place: usize,
+}
+
+// A bundle as the check leaves it: the refusal, or 0, 0, the entry count and the rows.
+struct Examined {
+    number: usize,
+    place: usize,
+    count: usize,
+    rows: [Row; 64],
+}
+
+fn magic_is(s: &[u8]) -> bool
+    requires { ⌜ 24 ≤ length (now s) ⌝ }
+    ensures { λ r. ⌜ r ≡ same (take 24 (now (s .entry))) magic ⌝ }
+{
+    wire::same_bytes(&s[..24], b"__CLANG_OFFLOAD_BUNDLE__")
+}
+
+// 1 LENGTH, 2 MAGIC, 3 COUNT, or 0.
+fn head(s: &[u8]) -> usize
+    ensures { λ r. ⌜ stop r 0 ≡ headStop (now (s .entry)) ⌝ }
+{
+    if 1073741824 < s.len() {
+        return 1;
+    }
+    if s.len() < 24 {
+        return 2;
+    }
+    if !magic_is(s) {
+        return 2;
+    }
+    if s.len() < 32 {
+        return 3;
+    }
+    if 64 < wire::word8_at(s, 24) {
+        return 3;
+    }
+    0
+}
+
+// 4 TABLE, of the row that starts at `from`.
+fn bad_row(s: &[u8], from: usize) -> bool
+    ensures { λ r. ⌜ r ≡ badRow (now (s .entry)) from ⌝ }
+{
+    if s.len() < from {
+        return true;
+    }
+    let left = s.len() - from;
+    if left < 24 {
+        return true;
+    }
+    let len = wire::word8_at(s, from + 16);
+    if len == 0 {
+        return true;
+    }
+    if 256 < len {
+        return true;
+    }
+    ((left - 24) as u64) < len
+}
+
+fn row_at(s: &[u8], at: usize) -> Row
+    requires { ⌜ RowFits (now s) at ⌝ }
+    ensures { λ r. ⌜ r ≡ heldRow (now (s .entry)) at ⌝ }
+{
+    let offset = wire::word8_at(s, at);
+    let size = wire::word8_at(s, at + 8);
+    let len = wire::word8_at(s, at + 16) as usize;
+    Row {
+        offset: offset,
+        size: size,
+        id: at + 24,
+        len: len,
+    }
+}
+
+fn no_rows() -> [Row; 64]
+    ensures { λ r. ⌜ length r ≡ 64 ⌝ }
+{
+    let none = Row {
+        offset: 0,
+        size: 0,
+        id: 0,
+        len: 0,
+    };
+    [none; 64]
+}
+
+// The table of n rows, up to its first bad one.
+fn read_table(s: &[u8], n: usize) -> Table
+    requires { ⌜ (32 ≤ length (now s)) × (n ≤ 64) ⌝ }
+    ensures { λ r. ⌜ Tabled (now (s .entry)) n (r .rows) (r .bad) (r .end) ⌝ }
+{
+    let mut rows = no_rows();
+    let mut i: usize = 0;
+    let mut at: usize = 32;
+    while i < n {
+        if bad_row(s, at) {
+            return Table {
+                rows: rows,
+                bad: i,
+                end: 0,
+            };
+        }
+        let row = row_at(s, at);
+        rows[i] = row;
+        at = row.id + row.len;
+        i += 1;
+    }
+    Table {
+        rows: rows,
+        bad: i,
+        end: at,
+    }
+}
+
+// 6 RANGE, of a row's image, in a container of `len` bytes. The sum is never made, so it cannot wrap.
+fn outside_row(row: Row, end: u64, len: u64) -> bool
+    ensures { λ r. ⌜ r ≡ outside end len (row .offset) (row .size) ⌝ }
+{
+    let offset = row.offset;
+    if offset < end {
+        return true;
+    }
+    if len < offset {
+        return true;
+    }
+    len - offset < row.size
+}
+
+// The first row of n whose image is outside, or n.
+fn first_outside(rows: [Row; 64], n: usize, end: u64, len: u64) -> usize
+    requires { ⌜ n ≤ 64 ⌝ }
+    ensures { λ r. ⌜ r ≡ first n (λ i. outside end len (getD rows i noRow .offset) (getD rows i noRow .size)) ⌝ }
+{
+    let mut i: usize = 0;
+    while i < n {
+        if outside_row(rows[i], end, len) {
+            return i;
+        }
+        i += 1;
+    }
+    i
+}
+
+// The canonical form of the ID of `len` bytes at `start`, to slot i: its length, 0 where the ID breaks the rules.
+fn canonical_at(s: &[u8], start: usize, len: usize, texts: &mut [u8], i: usize) -> usize
+    requires { ⌜ (start + len ≤ length (now s)) × (i * 256 + 256 ≤ length (now texts)) ⌝ }
+    ensures { λ r. ⌜ (r ≡ length (idRules .canon (take len (drop start (now (s .entry)))))) × (now (texts .exit) ≡ overwrite (now (texts .entry)) (i * 256) (idRules .canon (take len (drop start (now (s .entry)))))) ⌝ }
+{
+    let from = i * 256;
+    entry_id::canonical(&s[start..start + len], &mut texts[from..from + 256])
+}
+
+// 5 ID: the first row of n whose ID breaks the rules, or n. Each canonical form is made once, in its slot.
+fn canonicals(s: &[u8], rows: [Row; 64], n: usize, texts: &mut [u8], lens: &mut [usize]) -> usize
+    requires { ⌜ Rows (now s) n rows × Room (now texts) (now lens) ⌝ }
+    ensures { λ r. ⌜ Named idRules (now (s .entry)) n (now (texts .exit)) (now (lens .exit)) r ⌝ }
+{
+    let mut i: usize = 0;
+    while i < n {
+        let row = rows[i];
+        let m = canonical_at(s, row.id, row.len, texts, i);
+        if m == 0 {
+            return i;
+        }
+        lens[i] = m;
+        i += 1;
+    }
+    i
+}
+
+// The text of slot k: the slots of `texts` have 256 bytes each, `lens` has the lengths of what they hold.
+fn slot<'a, 'b>(texts: &'a [u8], lens: &'b [usize], k: usize) -> &'a [u8]
+    requires { ⌜ (k * 256 + 256 ≤ length (now texts)) × (k < length (now lens)) × (getD (now lens) k 0 ≤ 256) ⌝ }
+    ensures { λ r. ⌜ now r ≡ text (now (texts .entry)) (now (lens .entry)) k ⌝ }
+{
+    let a = k * 256;
+    let e = a + lens[k];
+    &texts[a..e]
+}
+
+// Of the texts of slots j and i: the same meaning, where `twice`; else mixed feature names.
+fn related(twice: bool, texts: &[u8], lens: &[usize], j: usize, i: usize) -> bool
+    requires { ⌜ (j < i) × Texts idRules (now texts) (now lens) (i + 1) ⌝ }
+    ensures { λ r. ⌜ r ≡ relation idRules twice (text (now (texts .entry)) (now (lens .entry)) j) (text (now (texts .entry)) (now (lens .entry)) i) ⌝ }
+{
+    let a = slot(texts, lens, j);
+    let b = slot(texts, lens, i);
+    if twice {
+        return entry_id::same_meaning(a, b);
+    }
+    entry_id::mixed(a, b)
+}
+
+// The first slot before i whose text stands in the relation to that of slot i, or i.
+fn related_before(twice: bool, texts: &[u8], lens: &[usize], i: usize) -> usize
+    requires { ⌜ Texts idRules (now texts) (now lens) (i + 1) ⌝ }
+    ensures { λ r. ⌜ r ≡ first i (λ j. relation idRules twice (text (now (texts .entry)) (now (lens .entry)) j) (text (now (texts .entry)) (now (lens .entry)) i)) ⌝ }
+{
+    let mut j: usize = 0;
+    while j < i {
+        if related(twice, texts, lens, j, i) {
+            return j;
+        }
+        j += 1;
+    }
+    j
+}
+
+// 7 TWICE or 8 MIXED: the first of n slots to whose text an earlier one stands in the relation, or n.
+fn first_related(twice: bool, texts: &[u8], lens: &[usize], n: usize) -> usize
+    requires { ⌜ Texts idRules (now texts) (now lens) n ⌝ }
+    ensures { λ r. ⌜ r ≡ first n (earlier (relation idRules twice) (text (now (texts .entry)) (now (lens .entry)))) ⌝ }
+{
+    let mut later: usize = 0;
+    while later < n {
+        let found = related_before(twice, texts, lens, later);
+        if found < later {
+            return later;
+        }
+        later += 1;
+    }
+    later
+}
+
+// 5 to 8: the first that refuses n rows, in a container whose table ends at `end`; else 0.
+fn judge(
+    s: &[u8],
+    rows: [Row; 64],
+    n: usize,
+    end: usize,
+    texts: &mut [u8],
+    lens: &mut [usize],
+) -> Refusal
+    requires { ⌜ Rows (now s) n rows × Room (now texts) (now lens) ⌝ }
+    ensures { λ r. ⌜ Judged idRules (rowsStop idRules end (length (now (s .entry))) n (row (now (s .entry)))) (now (s .entry)) n (now (texts .exit)) (now (lens .exit)) (r .number) (r .place) ⌝ }
+{
+    let bad_id = canonicals(s, rows, n, texts, lens);
+    let out = first_outside(rows, n, end as u64, s.len() as u64);
+    if bad_id < n {
+        return Refusal {
+            number: 5,
+            place: bad_id,
+        };
+    }
+    if out < n {
+        return Refusal {
+            number: 6,
+            place: out,
+        };
+    }
+    let twice = first_related(true, texts, lens, n);
+    if twice < n {
+        return Refusal {
+            number: 7,
+            place: twice,
+        };
+    }
+    let mix = first_related(false, texts, lens, n);
+    if mix < n {
+        return Refusal {
+            number: 8,
+            place: mix,
+        };
+    }
+    Refusal {
+        number: 0,
+        place: 0,
+    }
+}
+
+// 1 to 8 of a bundle: the first that refuses it; else its count and rows, with the canonical IDs in their slots.
+fn examine(s: &[u8], texts: &mut [u8], lens: &mut [usize]) -> Examined
+    requires { ⌜ Room (now texts) (now lens) ⌝ }
+    ensures { λ r. ⌜ Examination idRules (now (s .entry)) (now (texts .exit)) (now (lens .exit)) (r .number) (r .place) (r .count) (r .rows) ⌝ }
+{
+    let first = head(s);
+    if 0 < first {
+        return Examined {
+            number: first,
+            place: 0,
+            count: 0,
+            rows: no_rows(),
+        };
+    }
+    let n = wire::word8_at(s, 24) as usize;
+    let t = read_table(s, n);
+    let rows = t.rows;
+    let bad = t.bad;
+    if bad < n {
+        return Examined {
+            number: 4,
+            place: bad,
+            count: 0,
+            rows: rows,
+        };
+    }
+    let r = judge(s, rows, n, t.end, texts, lens);
+    let number = r.number;
+    let mut count = n;
+    if 0 < number {
+        count = 0;
+    }
+    Examined {
+        number: number,
+        place: r.place,
+        count: count,
+        rows: rows,
+    }
+}
+
+fn check_in(s: &[u8], texts: &mut [u8], lens: &mut [usize]) -> Checked
+    requires { ⌜ Room (now texts) (now lens) ⌝ }
+    ensures { λ r. ⌜ r ≡ check idRules (now (s .entry)) ⌝ }
+{
+    let e = examine(s, texts, lens);
+    Checked {
+        number: e.number,
+        place: e.place,
+        count: e.count,
+    }
+}
+
+// The check of a bundle.
+pub fn check(bundle: &[u8]) -> Checked
+    ensures { λ r. ⌜ r ≡ check idRules (now (bundle .entry)) ⌝ }
+{
+    let mut texts = [0u8; 16384];
+    let mut lens = [0usize; 64];
+    check_in(bundle, &mut texts, &mut lens)
+}
+
+// The text of slot k is compatible with the device name, which is canonical.
+fn compatible_at(texts: &[u8], lens: &[usize], k: usize, name: &[u8]) -> bool
+    requires { ⌜ Texts idRules (now texts) (now lens) (k + 1) × Canonical idRules (now name) ⌝ }
+    ensures { λ r. ⌜ r ≡ idRules .compatible (text (now (texts .entry)) (now (lens .entry)) k) (now (name .entry)) ⌝ }
+{
+    entry_id::compatible(slot(texts, lens, k), name)
+}
+
+// The first of n slots whose text is compatible with the device name, or n.
+fn first_compatible(texts: &[u8], lens: &[usize], n: usize, name: &[u8]) -> usize
+    requires { ⌜ Texts idRules (now texts) (now lens) n × Canonical idRules (now name) ⌝ }
+    ensures { λ r. ⌜ r ≡ first n (λ k. idRules .compatible (text (now (texts .entry)) (now (lens .entry)) k) (now (name .entry))) ⌝ }
+{
+    let mut k: usize = 0;
+    while k < n {
+        if compatible_at(texts, lens, k, name) {
+            return k;
+        }
+        k += 1;
+    }
+    k
+}
+
+// A pick's refusal.
+fn no_image(number: usize, place: usize) -> Picked
+    ensures { λ r. ⌜ r ≡ refusal number place ⌝ }
+{
+    Picked {
+        number: number,
+        place: place,
+        index: 0,
+        position: 0,
+        size: 0,
+    }
+}
+
+fn pick_in(s: &[u8], device: &[u8], texts: &mut [u8], lens: &mut [usize], name: &mut [u8]) -> Picked
+    requires { ⌜ Room (now texts) (now lens) × (length (now name) ≡ 256) ⌝ }
+    ensures { λ r. ⌜ r ≡ pick idRules (now (s .entry)) (now (device .entry)) ⌝ }
+{
+    let e = examine(s, texts, lens);
+    let number = e.number;
+    if 0 < number {
+        return no_image(number, e.place);
+    }
+    let len = entry_id::canonical(device, name);
+    if len == 0 {
+        return no_image(9, 0);
+    }
+    let n = e.count;
+    let i = first_compatible(texts, lens, n, &name[..len]);
+    if n <= i {
+        return no_image(10, 0);
+    }
+    let rows = e.rows;
+    let row = rows[i];
+    Picked {
+        number: 0,
+        place: 0,
+        index: i,
+        position: row.offset,
+        size: row.size,
+    }
+}
+
+// The pick of an image from a bundle by a device name.
+pub fn pick(bundle: &[u8], device: &[u8]) -> Picked
+    ensures { λ r. ⌜ r ≡ pick idRules (now (bundle .entry)) (now (device .entry)) ⌝ }
+{
+    let mut texts = [0u8; 16384];
+    let mut lens = [0usize; 64];
+    let mut name = [0u8; 256];
+    pick_in(bundle, device, &mut texts, &mut lens, &mut name)
+}

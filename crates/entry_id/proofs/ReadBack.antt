@@ -1,0 +1,250 @@
+-- Reading back what is written: the canonical form of a proper meaning is an ID with that meaning. Assumes nothing.
+use Prim.Native.Nat.{ℕ, _+_, _-_, _≤_}
+use Prim.Native.Char.{code}
+use mathlib.Core.Path.{_≡_, refl, sym, ap, _∙_, subst}
+use mathlib.Core.Logic.{inl, inr, _↔_}
+use mathlib.Core.Bool.{Bool, true, false, not, _||_}
+use mathlib.Core.List.{List, [], _∷_, map}
+use native.Mathlib.Omega.{arith}
+use lib.ListN.{length, getD, take, length-append}
+use lib.Seq.{take-at, getD-at}
+use lib.Dec.{T, eqb, leb, eqb→eq, le→leb, leb→le}
+use Rattle.wire.proofs.SortLaws.{sort-rising}
+use Rattle.wire.specs.Lists.{any, every}
+use Rattle.wire.specs.Order.{risingBy, sortBy}
+use Rattle.wire.specs.Bytes.{bytes, empty, same, before}
+use Rattle.entry_id.specs.Text.{splitOn, joinWith}
+use Rattle.wire.proofs.Bools.{and-l, and-r, and-t, or-t, or-l, is-true, is-false, of-true, cases}
+use Rattle.entry_id.proofs.TextLaws.{every-imp, every-append, split-join}
+use Rattle.wire.proofs.ByteLaws.{same-eq}
+use Rattle.entry_id.specs.Code.Scan.{notColon}
+use Rattle.entry_id.specs.Meaning.{byName, Feature, Meaning, fieldsOf, piecesOf, fifthIsProcessor, feature, meaningOf, meaning, sign, piece, sixFields, canonicalOf, nameByte, fieldByte, kinds, signed, named, shaped, proper, valid, canon}
+
+-- ---- one feature
+
+length-piece : (f : Feature) → length (f .name) ≡ length (piece f) - 1
+unfolding piece
+length-piece f = omega (arith, length-append (f .name) (sign (f .on) ∷ []))
+
+last-piece : (f : Feature) → getD (piece f) (length (piece f) - 1) 0 ≡ sign (f .on)
+unfolding piece
+last-piece f = getD-at (f .name) (sign (f .on)) [] 0 (length (piece f) - 1) (length-piece f)
+
+sign-back : (b : Bool) → eqb (sign b) (code "+") ≡ b
+unfolding sign
+sign-back true = refl
+sign-back false = refl
+
+pub feature-piece : (f : Feature) → feature (piece f) ≡ f
+unfolding feature piece
+feature-piece f =
+    let p : take (length (piece f) - 1) (piece f) ≡ f .name = take-at (f .name) (sign (f .on) ∷ []) (length (piece f) - 1) (length-piece f) in
+    let q : eqb (getD (piece f) (length (piece f) - 1) 0) (code "+") ≡ f .on = ap (λ s. eqb s (code "+")) (last-piece f) ∙ sign-back (f .on) in
+    λ i. record { name = p i; on = q i }
+
+sign-signed : (b : Bool) → T (eqb (sign b) (code "+") || eqb (sign b) (code "-"))
+unfolding sign
+sign-signed true = tt
+sign-signed false = tt
+
+signed-piece : (f : Feature) → T (signed (piece f))
+unfolding signed
+signed-piece f = rw (last-piece f) (sign-signed (f .on))
+
+all-signed : (fs : List Feature) → T (every signed (map piece fs))
+unfolding every
+all-signed [] = tt
+all-signed (f ∷ fs) = and-t (signed (piece f)) (every signed (map piece fs)) (signed-piece f) (all-signed fs)
+
+-- ---- the features
+
+features-pieces : (fs : List Feature) → map feature (map piece fs) ≡ fs
+features-pieces [] = refl
+features-pieces (f ∷ fs) = let p = feature-piece f in let q = features-pieces fs in cc
+
+-- ---- what the rules ask, part by part
+
+pub record Proper (m : Meaning) : Type 0 where
+  pub kind-in : T (any (same (m .kind)) kinds)
+  pub arch-some : T (not (empty (m .arch)))
+  pub vendor-some : T (not (empty (m .vendor)))
+  pub system-some : T (not (empty (m .system)))
+  pub field-bytes : T (every (every fieldByte) (m .arch ∷ m .vendor ∷ m .system ∷ m .environment ∷ m .processor ∷ []))
+  pub all-named : T (every named (m .features))
+  pub in-order : T (risingBy byName (m .features))
+  pub few : T (leb (length (m .features)) 8)
+  pub with-proc : T (not (empty (m .processor)) || empty (m .features))
+  pub fits : T (leb (length (canonicalOf m)) 256)
+
+pub parts : (m : Meaning) → T (proper m) → Proper m
+unfolding proper
+parts m t = search (and-l, and-r) depth 12
+
+-- ---- bytes
+
+pub no-colon : T (notColon (code ":")) → ⊥
+unfolding notColon
+no-colon t = t
+
+pub no-dash : T (fieldByte (code "-")) → ⊥
+unfolding fieldByte nameByte
+no-dash t = t
+
+field-not-colon : (x : ℕ) → T (fieldByte x) → T (notColon x)
+unfolding fieldByte nameByte notColon
+field-not-colon x t = of-true (not (eqb x (code ":"))) (ap not (is-false (eqb x (code ":")) λ e. subst (λ y. T (fieldByte y)) (eqb→eq x (code ":") e) t))
+
+name-field : (x : ℕ) → T (nameByte x) → T (fieldByte x)
+unfolding fieldByte
+name-field x t = search (or-l)
+
+pub any-holds : (q : List ℕ → Bool) (k : List ℕ) (l : List (List ℕ)) → T (any (same k) l) → T (every q l) → T (q k)
+unfolding any every
+any-holds q k [] s t = absurd s
+any-holds q k (x ∷ l) s t = elim (or-t (same k x) (any (same k) l) s) [
+  | inl u ↦ subst (λ y. T (q y)) (sym (same-eq k x u)) (and-l (q x) (every q l) t)
+  | inr u ↦ any-holds q k l u (and-r (q x) (every q l) t)
+]
+
+pub kind-bytes : (k : List ℕ) → T (any (same k) kinds) → T (every fieldByte k)
+unfolding kinds every fieldByte nameByte
+kind-bytes k t = any-holds (every fieldByte) k kinds t tt
+
+all-fields : (m : Meaning) → Proper m → T (every (every fieldByte) (sixFields m))
+unfolding every sixFields
+all-fields m h = and-t (every fieldByte (m .kind)) _ (kind-bytes (m .kind) (h .kind-in)) (h .field-bytes)
+
+join-every : (c : ℕ) (p : ℕ → Bool) → T (p c) → (fs : List (List ℕ)) → T (every (every p) fs) → T (every p (joinWith c fs))
+unfolding every joinWith
+join-every c p s [] t = tt
+join-every c p s (f ∷ []) t = and-l (every p f) true t
+join-every c p s (f ∷ g ∷ fs) t =
+    every-append p f (c ∷ joinWith c (g ∷ fs)) (and-l (every p f) (every (every p) (g ∷ fs)) t)
+    (and-t (p c) (every p (joinWith c (g ∷ fs))) s (join-every c p s (g ∷ fs) (and-r (every p f) (every (every p) (g ∷ fs)) t)))
+
+sign-not-colon : (b : Bool) → T (every notColon (sign b ∷ []))
+unfolding sign every notColon
+sign-not-colon true = tt
+sign-not-colon false = tt
+
+piece-not-colon : (f : Feature) → T (named f) → T (every notColon (piece f))
+unfolding piece named
+piece-not-colon f t =
+    every-append notColon (f .name) (sign (f .on) ∷ [])
+    (every-imp nameByte notColon (λ x u. field-not-colon x (name-field x u)) (f .name) (and-r (not (empty (f .name))) (every nameByte (f .name)) t))
+    (sign-not-colon (f .on))
+
+pieces-not-colon : (fs : List Feature) → T (every named fs) → T (every (every notColon) (map piece fs))
+unfolding every
+pieces-not-colon [] t = tt
+pieces-not-colon (f ∷ fs) t = and-t (every notColon (piece f)) _ (piece-not-colon f (and-l (named f) (every named fs) t)) (pieces-not-colon fs (and-r (named f) (every named fs) t))
+
+-- ---- the text that is written
+
+abbrev withFeatures : Meaning → List Feature → Meaning
+withFeatures m l = record { kind = m .kind; arch = m .arch; vendor = m .vendor; system = m .system; environment = m .environment; processor = m .processor; features = l }
+
+length-join : (c : ℕ) (f : List ℕ) (fs : List (List ℕ)) → length f ≤ length (joinWith c (f ∷ fs))
+unfolding joinWith
+length-join c f [] = omega arith
+length-join c f (g ∷ fs) = omega (arith, length-append f (c ∷ joinWith c (g ∷ fs)))
+
+main : Meaning → List ℕ
+main m = joinWith (code "-") (sixFields m)
+
+write-some : (m : Meaning) → 1 ≤ length (canonicalOf m)
+unfolding canonicalOf sixFields joinWith
+write-some m =
+    omega (arith, length-join (code ":") (joinWith (code "-") (sixFields m)) (map piece (m .features)), length-append (m .kind) (code "-" ∷ joinWith (code "-") (m .arch ∷ m .vendor ∷ m .system ∷ m .environment ∷ m .processor ∷ [])))
+
+module _ (m : Meaning) (h : Proper m) where
+  main-not-colon : T (every notColon (main m))
+  unfolding main notColon
+  main-not-colon = join-every (code "-") notColon tt (sixFields m) (every-imp (every fieldByte) (every notColon) (every-imp fieldByte notColon field-not-colon) (sixFields m) (all-fields m h))
+
+  cut : splitOn (code ":") (canonicalOf m) ≡ main m ∷ map piece (m .features)
+  unfolding canonicalOf main every
+  cut = split-join (code ":") notColon no-colon (main m) (map piece (m .features)) (and-t (every notColon (main m)) _ main-not-colon (pieces-not-colon (m .features) (h .all-named)))
+
+  -- the six fields, out of the canonical form's head
+  pub head-cut : splitOn (code "-") (joinWith (code "-") (sixFields m)) ≡ sixFields m
+  unfolding sixFields
+  head-cut = split-join (code "-") fieldByte no-dash (m .kind) (m .arch ∷ m .vendor ∷ m .system ∷ m .environment ∷ m .processor ∷ []) (all-fields m h)
+
+  -- what stands before the first ':' of the canonical form
+  pub head-write : getD (splitOn (code ":") (canonicalOf m)) 0 [] ≡ joinWith (code "-") (sixFields m)
+  unfolding main
+  head-write = rw cut
+
+  fields-back : fieldsOf (canonicalOf m) ≡ sixFields m
+  unfolding fieldsOf main
+  fields-back = rw cut head-cut
+
+  pub pieces-back : piecesOf (canonicalOf m) ≡ map piece (m .features)
+  unfolding piecesOf
+  pieces-back = rw cut
+
+  features-back : sortBy byName (map feature (map piece (m .features))) ≡ m .features
+  features-back = rw (features-pieces (m .features)) (sort-rising byName (m .features) (h .in-order))
+
+  pub meaning-write : meaning (canonicalOf m) ≡ m
+  unfolding meaning meaningOf sixFields fifthIsProcessor
+  meaning-write = rw (fields-back, pieces-back) (ap (λ (l : List Feature). withFeatures m l) features-back)
+
+  length-fields : length (fieldsOf (canonicalOf m)) ≡ 6
+  unfolding sixFields
+  length-fields = rw fields-back
+
+  pub shaped-write : T (shaped (canonicalOf m))
+  unfolding shaped
+  shaped-write =
+      let some : T (leb 1 (length (canonicalOf m))) = le→leb 1 (length (canonicalOf m)) (write-some m) in
+      let least : T (leb 4 (length (fieldsOf (canonicalOf m)))) = rw length-fields tt in
+      let most : T (leb (length (fieldsOf (canonicalOf m))) 6) = rw length-fields tt in
+      let signs : T (every signed (piecesOf (canonicalOf m))) = rw pieces-back (all-signed (m .features)) in
+      search and-t
+
+  pub valid-write : T (proper m) → T (valid (canonicalOf m))
+  unfolding valid
+  valid-write t = and-t (shaped (canonicalOf m)) (proper (meaning (canonicalOf m))) shaped-write (rw meaning-write t)
+
+-- ---- reading back, one text for each meaning, sizes
+
+module _ (x : List ℕ) (v : T (valid x)) where
+  pub proper-meaning : T (proper (meaning x))
+  unfolding valid
+  proper-meaning = and-r (shaped x) (proper (meaning x)) v
+
+  pub read-back : meaning (canonicalOf (meaning x)) ≡ meaning x
+  read-back = meaning-write (meaning x) (parts (meaning x) proper-meaning)
+
+  pub canon-is : canon x ≡ canonicalOf (meaning x)
+  unfolding canon
+  canon-is = rw (is-true (valid x) v)
+
+  pub canon-meaning : meaning (canon x) ≡ meaning x
+  canon-meaning = rw canon-is read-back
+
+  pub canon-valid : T (valid (canon x))
+  canon-valid = rw canon-is (valid-write (meaning x) (parts (meaning x) proper-meaning) proper-meaning)
+
+  pub canon-size : (1 ≤ length (canon x)) × (length (canon x) ≤ 256)
+  canon-size = rw canon-is (write-some (meaning x), leb→le (length (canonicalOf (meaning x))) 256 (parts (meaning x) proper-meaning .fits))
+
+pub canon-refused : (x : List ℕ) → valid x ≡ false → canon x ≡ []
+unfolding canon
+canon-refused x e = rw e
+
+canon-empty : canon [] ≡ []
+unfolding canon valid shaped
+canon-empty = refl
+
+pub canon-again : (x : List ℕ) → canon (canon x) ≡ canon x
+canon-again x = elim (cases (valid x)) [
+  | inl e ↦ let v = of-true (valid x) e in canon-is (canon x) (canon-valid x v) ∙ ap canonicalOf (canon-meaning x v) ∙ sym (canon-is x v)
+  | inr e ↦ let r = canon-refused x e in rw r canon-empty
+]
+
+pub same-canon : (x y : List ℕ) → T (valid x) → T (valid y) → (canon x ≡ canon y) ↔ (meaning x ≡ meaning y)
+same-canon x y s t =
+    ((λ e. sym (canon-meaning x s) ∙ ap meaning e ∙ canon-meaning y t), (λ e. canon-is x s ∙ ap canonicalOf e ∙ sym (canon-is y t)))

@@ -1,0 +1,72 @@
+-- Laws of texts: every byte, cutting and joining. Assumes nothing.
+use Prim.Native.Nat.{ℕ, _+_, _-_}
+use mathlib.Core.Path.{_≡_, refl, sym, ap, _∙_, subst}
+use mathlib.Core.Bool.{Bool, true, false}
+use mathlib.Core.List.{List, [], _∷_, _++_}
+use lib.Dec.{T, eqb, eqb→eq, eqb-refl}
+use Rattle.wire.specs.Lists.{any, every}
+use Rattle.wire.proofs.Bools.{and-l, and-r, and-t, is-true, is-false, cond-ind, cond-case}
+use Rattle.entry_id.specs.Text.{onFirst, splitOn, joinWith}
+
+-- ---- every, any
+
+pub every-imp : {A : Type 0} (p q : A → Bool) → ((x : A) → T (p x) → T (q x)) → (l : List A) → T (every p l) → T (every q l)
+unfolding every
+every-imp p q h [] t = tt
+every-imp p q h (x ∷ l) t = and-t (q x) (every q l) (h x (and-l (p x) (every p l) t)) (every-imp p q h l (and-r (p x) (every p l) t))
+
+pub every-append : {A : Type 0} (p : A → Bool) (a b : List A) → T (every p a) → T (every p b) → T (every p (a ++ b))
+unfolding every
+every-append p [] b s t = t
+every-append p (x ∷ a) b s t = and-t (p x) (every p (a ++ b)) (and-l (p x) (every p a) s) (every-append p a b (and-r (p x) (every p a) s) t)
+
+-- ---- cutting and joining
+
+module _ (c : ℕ) (p : ℕ → Bool) (no : T (p c) → ⊥) where
+  misses : (x : ℕ) → T (p x) → eqb x c ≡ false
+  misses x t = is-false (eqb x c) (λ e. no (subst (λ (y : ℕ). T (p y)) (eqb→eq x c e) t))
+
+  pub split-last : (f : List ℕ) → T (every p f) → splitOn c f ≡ f ∷ []
+  unfolding splitOn every onFirst
+  split-last [] t = refl
+  split-last (x ∷ f) t = rw (misses x (and-l (p x) (every p f) t), split-last f (and-r (p x) (every p f) t))
+
+  pub split-skip : (f r : List ℕ) → T (every p f) → splitOn c (f ++ c ∷ r) ≡ f ∷ splitOn c r
+  unfolding splitOn every onFirst
+  split-skip [] r t = rw (is-true (eqb c c) (eqb-refl c))
+  split-skip (x ∷ f) r t = rw (misses x (and-l (p x) (every p f) t), split-skip f r (and-r (p x) (every p f) t))
+
+  pub split-join : (f : List ℕ) (fs : List (List ℕ)) → T (every (every p) (f ∷ fs)) → splitOn c (joinWith c (f ∷ fs)) ≡ f ∷ fs
+  unfolding joinWith every
+  split-join f [] t = split-last f (and-l (every p f) true t)
+  split-join f (g ∷ fs) t =
+      rw (split-skip f (joinWith c (g ∷ fs)) (and-l (every p f) (every (every p) (g ∷ fs)) t))
+      (ap (λ r. f ∷ r) (split-join g fs (and-r (every p f) (every (every p) (g ∷ fs)) t)))
+
+first-some : (x : ℕ) (ps : List (List ℕ)) → (q : List ℕ) × (qs : List (List ℕ)) × (onFirst x ps ≡ q ∷ qs)
+unfolding onFirst
+first-some x [] = (x ∷ [], [], refl)
+first-some x (p ∷ ps) = (x ∷ p, ps, refl)
+
+pub split-some : (c : ℕ) (x : List ℕ) → (q : List ℕ) × (qs : List (List ℕ)) × (splitOn c x ≡ q ∷ qs)
+unfolding splitOn onFirst
+split-some c [] = ([], [], refl)
+split-some c (x ∷ xs) =
+    cond-ind (λ r. (q : List ℕ) × (qs : List (List ℕ)) × (r ≡ q ∷ qs)) (eqb x c) ([] ∷ splitOn c xs) (onFirst x (splitOn c xs))
+    ([], splitOn c xs, refl) (first-some x (splitOn c xs))
+
+join-onFirst : (c x : ℕ) (ps : List (List ℕ)) → joinWith c (onFirst x ps) ≡ x ∷ joinWith c ps
+unfolding joinWith onFirst
+join-onFirst c x [] = refl
+join-onFirst c x (p ∷ []) = refl
+join-onFirst c x (p ∷ q ∷ ps) = refl
+
+pub join-split : (c : ℕ) (x : List ℕ) → joinWith c (splitOn c x) ≡ x
+unfolding splitOn joinWith
+join-split c [] = refl
+join-split c (x ∷ xs) =
+    let (q, qs, e) = split-some c xs in
+    cond-case (λ r. joinWith c r ≡ x ∷ xs) (eqb x c) ([] ∷ splitOn c xs) (onFirst x (splitOn c xs))
+    (λ t. ap (λ ps. joinWith c ([] ∷ ps)) e ∙ ap (λ ps. c ∷ joinWith c ps) (sym e) ∙ ap (λ y. c ∷ y) (join-split c xs)
+    ∙ ap (λ y. y ∷ xs) (sym (eqb→eq x c t)))
+    (λ t. join-onFirst c x (splitOn c xs) ∙ ap (λ y. x ∷ y) (join-split c xs))

@@ -1,0 +1,40 @@
+-- Canonical forms as code handles them: written into a lent buffer, and compared as texts. Definitions only.
+-- The theorem `EntryIds` of `Theorems` says that on canonical forms the tests on texts are the tests on meanings.
+use Prim.Native.Nat.{ℕ, _-_}
+use Prim.Native.Char.{code}
+use mathlib.Core.Bool.{Bool, not, _&&_, cond}
+use mathlib.Core.List.{List, []}
+use lib.ListN.{length, getD, take}
+use lib.Dec.{leb}
+use Rattle.wire.specs.Lists.{agree, any, every}
+use Rattle.wire.specs.Bytes.{same}
+use Rattle.entry_id.specs.Text.{splitOn}
+use Rattle.entry_id.specs.Meaning.{piecesOf, canon}
+
+-- the canonical form where it fits `room` bytes, else nothing; room for 256 bytes is enough for every ID
+unfoldable pub canonicalIn : ℕ → List ℕ → List ℕ
+canonicalIn room x = cond (leb (length (canon x)) room) (canon x) []
+
+-- the text before its first ':': of a canonical form kind, triple and processor
+unfoldable pub headOf : List ℕ → List ℕ
+headOf x = getD (splitOn (code ":") x) 0 []
+
+-- each piece of ps stands among qs
+unfoldable pub within : List (List ℕ) → List (List ℕ) → Bool
+within qs ps = every (λ p. any (same p) qs) ps
+
+-- a piece without its sign
+unfoldable pub unsigned : List ℕ → List ℕ
+unsigned p = take (length p - 1) p
+
+unfoldable pub samePieceNames : List (List ℕ) → List (List ℕ) → Bool
+samePieceNames ps qs = agree (λ p q. same (unsigned p) (unsigned q)) ps qs
+
+unfoldable pub compatibleText : List ℕ → List ℕ → Bool
+compatibleText e d = same (headOf e) (headOf d) && within (piecesOf d) (piecesOf e)
+
+unfoldable pub sameText : List ℕ → List ℕ → Bool
+sameText a b = same a b
+
+unfoldable pub mixedText : List ℕ → List ℕ → Bool
+mixedText a b = same (headOf a) (headOf b) && not (samePieceNames (piecesOf a) (piecesOf b))

@@ -1,0 +1,20 @@
+-- Tests on lists. Definitions only.
+use mathlib.Core.Bool.{Bool, true, false, _&&_, _||_}
+use mathlib.Core.List.{List, [], _∷_}
+
+-- every element passes the test
+unfoldable pub every : {A : Type 0} → (A → Bool) → List A → Bool
+every p [] = true
+every p (x ∷ l) = p x && every p l
+
+-- some element passes the test
+unfoldable pub any : {A : Type 0} → (A → Bool) → List A → Bool
+any p [] = false
+any p (x ∷ l) = p x || any p l
+
+-- two lists agree, element by element
+unfoldable pub agree : {A : Type 0} → (A → A → Bool) → List A → List A → Bool
+agree t [] [] = true
+agree t [] (y ∷ b) = false
+agree t (x ∷ a) [] = false
+agree t (x ∷ a) (y ∷ b) = t x y && agree t a b

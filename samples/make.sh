@@ -1,0 +1,81 @@
+#!/usr/bin/env bash
+# Makes images/, bundles/ and binaries/ again, byte for byte, with Debian's clang-19 and clang-tools-19 (1:19.1.7-3~deb12u1), and
+# bundles/five-fields.bundle with Debian's clang-tools-14 (1:14.0.6-12). The files are committed: no test runs this.
+set -eu
+cd "$(dirname "$0")"
+rm -rf images bundles binaries
+mkdir images bundles binaries
+
+# Device images. amd NAME TARGET-ID: a code object of the kernel for that processor.
+amd() {
+  clang-19 --target=amdgcn-amd-amdhsa -mcpu="$2" -nogpulib -O2 -c source/add.cl -o "images/$1.o"
+}
+amd gfx906 gfx906
+amd gfx906-sramecc+xnack+ gfx906:sramecc+:xnack+
+amd gfx906-sramecc+xnack- gfx906:sramecc+:xnack-
+amd gfx906-sramecc-xnack+ gfx906:sramecc-:xnack+
+amd gfx906-sramecc-xnack- gfx906:sramecc-:xnack-
+amd gfx90a-sramecc+xnack+ gfx90a:sramecc+:xnack+
+amd gfx90a-sramecc+xnack- gfx90a:sramecc+:xnack-
+amd gfx1030 gfx1030
+clang-19 --target=nvptx64-nvidia-cuda -march=sm_70 -nogpulib -O2 -S source/scale.c -o images/sm_70.s
+clang-19 --target=nvptx64-nvidia-cuda -march=sm_80 -nogpulib -O2 -S source/scale.c -o images/sm_80.s
+clang-19 --target=amdgcn-amd-amdhsa -mcpu=gfx906 -nogpulib -O2 -c -emit-llvm source/add.cl -o images/gfx906.bc
+clang-19 --target=x86_64-unknown-linux-gnu -O2 -c -emit-llvm source/scale.c -o images/host.bc
+
+# Bundles.
+clang-offload-bundler-19 -type=o \
+  -targets=host-x86_64-unknown-linux-gnu,hip-amdgcn-amd-amdhsa--gfx906:sramecc+:xnack+,hip-amdgcn-amd-amdhsa--gfx906:sramecc+:xnack-,hip-amdgcn-amd-amdhsa--gfx906:sramecc-:xnack+,hip-amdgcn-amd-amdhsa--gfx906:sramecc-:xnack-,hip-amdgcn-amd-amdhsa--gfx90a:sramecc+:xnack+,hip-amdgcn-amd-amdhsa--gfx90a:sramecc+:xnack-,hip-amdgcn-amd-amdhsa--gfx1030 \
+  -input=/dev/null \
+  -input=images/gfx906-sramecc+xnack+.o \
+  -input=images/gfx906-sramecc+xnack-.o \
+  -input=images/gfx906-sramecc-xnack+.o \
+  -input=images/gfx906-sramecc-xnack-.o \
+  -input=images/gfx90a-sramecc+xnack+.o \
+  -input=images/gfx90a-sramecc+xnack-.o \
+  -input=images/gfx1030.o \
+  -output=bundles/three-cards.bundle
+
+clang-offload-bundler-19 -type=o -bundle-align=4096 \
+  -targets=host-x86_64-unknown-linux-gnu,hipv4-amdgcn-amd-amdhsa--gfx90a:sramecc+:xnack-,hipv4-amdgcn-amd-amdhsa--gfx906:sramecc-:xnack+,hipv4-amdgcn-amd-amdhsa--gfx1030 \
+  -input=/dev/null \
+  -input=images/gfx90a-sramecc+xnack-.o \
+  -input=images/gfx906-sramecc-xnack+.o \
+  -input=images/gfx1030.o \
+  -output=bundles/aligned.bundle
+
+clang-offload-bundler-19 -type=bc \
+  -targets=host-x86_64-unknown-linux-gnu,openmp-amdgcn-amd-amdhsa--gfx906,hip-amdgcn-amd-amdhsa--gfx906,openmp-nvptx64-nvidia-cuda--sm_70,openmp-nvptx64-nvidia-cuda--sm_80 \
+  -input=images/host.bc \
+  -input=images/gfx906.bc \
+  -input=images/gfx906.o \
+  -input=images/sm_70.s \
+  -input=images/sm_80.s \
+  -output=bundles/kinds.bundle
+
+clang-offload-bundler-19 -type=o \
+  -targets=host-x86_64-unknown-linux-gnu \
+  -input=/dev/null \
+  -output=bundles/host-only.bundle
+
+clang-offload-bundler-14 -type=o \
+  -targets=host-x86_64-unknown-linux-gnu,hip-amdgcn-amd-amdhsa-gfx906:sramecc-:xnack+,hip-amdgcn-amd-amdhsa-gfx906:sramecc+:xnack+,openmp-amdgcn-amd-amdhsa-gfx1030 \
+  -inputs=/dev/null,images/gfx906-sramecc-xnack+.o,images/gfx906-sramecc+xnack+.o,images/gfx1030.o \
+  -outputs=bundles/five-fields.bundle
+
+# Offload binaries.
+clang-offload-packager-19 -o binaries/one.bin \
+  --image=file=images/gfx906.o,triple=amdgcn-amd-amdhsa,arch=gfx906
+
+clang-offload-packager-19 -o binaries/kinds.bin \
+  --image=file=images/gfx906-sramecc-xnack+.o,triple=amdgcn-amd-amdhsa,arch=gfx906:sramecc-:xnack+,kind=hip \
+  --image=file=images/gfx906.bc,triple=amdgcn-amd-amdhsa,arch=gfx906,kind=openmp \
+  --image=file=images/sm_70.s,triple=nvptx64-nvidia-cuda,arch=sm_70,kind=cuda \
+  --image=file=images/sm_80.s,triple=nvptx64-nvidia-cuda,arch=sm_80,kind=cuda
+
+clang-offload-packager-19 -o binaries/pairs.bin \
+  --image=file=images/gfx1030.o,triple=amdgcn-amd-amdhsa,arch=gfx1030,kind=openmp,feature=-wavefrontsize64,note=arch,empty= \
+  --image=file=/dev/null,triple=amdgcn-amd-amdhsa,arch=gfx1030,kind=openmp
+
+clang-offload-packager-19 -o binaries/bitcode.bin \
+  --image=file=images/gfx906.bc,triple=amdgcn-amd-amdhsa,arch=gfx906,kind=openmp

@@ -1,0 +1,149 @@
+//! Families of cases. Each has its own generator, its own calls and its own numbers that must come.
+
+pub mod binaries;
+pub mod binary_writer;
+pub mod bundle_writer;
+pub mod bundles;
+#[cfg(test)]
+mod tests;
+
+use crate::gen::random::Random;
+use crate::gen::Aim;
+use crate::model::{Written, BIG, OK, ROOM, SIZE_LIMIT};
+use std::fmt::Debug;
+
+/// A case in which the library does not answer as the model does.
+#[derive(Clone, Debug)]
+pub struct Difference {
+    pub call: &'static str,
+    pub model: String,
+    pub library: String,
+}
+
+pub trait Family {
+    fn name(&self) -> &'static str;
+
+    /// Runs the cases that are no matter of chance, and says how many they are.
+    fn run_fixed(&mut self) -> Result<u64, Difference>;
+
+    /// Makes a case and runs it.
+    fn run(&mut self, random: &mut Random) -> Result<(), Difference>;
+
+    fn report(&self) -> &Report;
+
+    /// The case that ran last, as files.
+    fn files(&self) -> Vec<(&'static str, Vec<u8>)>;
+}
+
+pub fn same<T: PartialEq + Debug>(call: &'static str, model: &T, library: &T) -> Result<(), Difference> {
+    if model == library {
+        return Ok(());
+    }
+    Err(Difference { call, model: format!("{model:?}"), library: format!("{library:?}") })
+}
+
+/// What must hold of the library's answer by itself.
+pub fn holds(call: &'static str, holds: bool, rule: &str, library: &impl Debug) -> Result<(), Difference> {
+    if holds {
+        return Ok(());
+    }
+    Err(Difference { call, model: rule.to_string(), library: format!("{library:?}") })
+}
+
+pub const ZEROS: &str = "a refusal has 0 in every other number, an accepted call has place 0";
+pub const KEPT: &str = "what is lent for reading stays as it is";
+pub const WRITTEN: &str = "the lent output holds the bytes of the model, and nothing else changed";
+
+/// How often each number came from a call.
+pub struct Tally {
+    pub call: &'static str,
+    pub must_come: &'static [u64],
+    pub seen: [u64; 20],
+}
+
+/// How often a case was aimed at a line, and how often it met it.
+pub struct AimTally {
+    pub name: String,
+    pub call: &'static str,
+    pub number: u64,
+    pub tried: u64,
+    pub met: u64,
+}
+
+#[derive(Default)]
+pub struct Report {
+    pub tallies: Vec<Tally>,
+    pub aims: Vec<AimTally>,
+    /// For each number of entries, how often a bundle with so many was accepted; empty in other families.
+    pub entry_counts: Vec<u64>,
+}
+
+impl Report {
+    pub fn new<D>(calls: &[(&'static str, &'static [u64])], aims: &[Aim<D>]) -> Report {
+        let tally = |(call, must_come): &(&'static str, &'static [u64])| Tally { call, must_come, seen: [0; 20] };
+        let aim =
+            |aim: &Aim<D>| AimTally { name: aim.name.clone(), call: aim.call, number: aim.number, tried: 0, met: 0 };
+        Report {
+            tallies: calls.iter().map(tally).collect(),
+            aims: aims.iter().map(aim).collect(),
+            entry_counts: Vec::new(),
+        }
+    }
+
+    pub fn count(&mut self, call: &str, number: u64) {
+        for tally in &mut self.tallies {
+            if tally.call == call {
+                tally.seen[number as usize] += 1;
+            }
+        }
+    }
+
+    /// A case that was aimed at one line alone, with the number that its call gave.
+    pub fn aimed(&mut self, aim: usize, number: u64) {
+        self.aims[aim].tried += 1;
+        if self.aims[aim].number == number {
+            self.aims[aim].met += 1;
+        }
+    }
+
+    /// Numbers that never came, counts of entries that were never accepted, and lines that were never met.
+    pub fn missing(&self) -> Vec<String> {
+        let mut missing = Vec::new();
+        for tally in &self.tallies {
+            let never = tally.must_come.iter().filter(|number| tally.seen[**number as usize] == 0);
+            missing.extend(never.map(|number| format!("{}: number {number} never came", tally.call)));
+        }
+        let never = self.entry_counts.iter().enumerate().filter(|(_, seen)| **seen == 0);
+        missing.extend(never.map(|(count, _)| format!("check: no bundle of {count} entries was accepted")));
+        let never = self.aims.iter().filter(|aim| aim.met == 0);
+        missing.extend(never.map(|aim| format!("{}: never met with number {}: {}", aim.call, aim.number, aim.name)));
+        missing
+    }
+}
+
+/// Applies one aim to a draft, and now and then another one over it. The aim's index, if it is alone.
+pub fn apply_aims<D>(aims: &[Aim<D>], draft: &mut D, random: &mut Random) -> Option<usize> {
+    let aim = random.below(aims.len());
+    (aims[aim].make)(draft, random);
+    if random.one_in(6) {
+        (random.choose(aims).make)(draft, random);
+        return None;
+    }
+    Some(aim)
+}
+
+/// Room for every output that a case may write.
+pub fn scratch() -> Vec<u8> {
+    vec![0; 1 << 20]
+}
+
+/// The length that the model would write with room enough; the size limit where that is too long for any case; 100 for another refusal,
+/// so that there is some room that must stay as it is.
+pub fn wanted_length(scratch: &mut [u8], write: impl Fn(&mut [u8]) -> Written) -> u128 {
+    let written = write(scratch);
+    match written.number {
+        OK => written.length as u128,
+        BIG | ROOM => SIZE_LIMIT,
+        _ => 100,
+    }
+}

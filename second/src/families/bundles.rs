@@ -1,0 +1,170 @@
+//! Bundles: the check, the pick and normalising.
+
+use super::*;
+use crate::calls::{BundleCalls, NormaliseCalls};
+use crate::gen::bundles::{aims, sample_case, shake, some_count, Case, Draft};
+use crate::gen::examples::bundle_cases;
+use crate::gen::Room;
+use crate::guard::{Inputs, Output};
+use crate::model::bundle::{check, normalise, pick, Checked, Picked};
+use crate::model::Written;
+use crate::samples;
+
+const CHECK: (&str, &[u64]) = ("check", &[0, 1, 2, 3, 4, 5, 6, 7, 8]);
+const PICK: (&str, &[u64]) = ("pick", &[0, 1, 2, 3, 4, 5, 6, 7, 8, 9, 10]);
+const NORMALISE: (&str, &[u64]) = ("normalise", &[0, 1, 2, 3, 4, 5, 6, 7, 8, 11, 12]);
+
+pub struct Bundles {
+    calls: BundleCalls,
+    aims: Vec<Aim<Draft>>,
+    report: Report,
+    bundle: Inputs,
+    device: Inputs,
+    output: Output,
+    scratch: Vec<u8>,
+    case: Case,
+}
+
+impl Bundles {
+    pub fn new(calls: BundleCalls) -> Bundles {
+        let mut aims = aims();
+        let mut tallies = vec![CHECK, PICK];
+        if calls.normalise.is_some() {
+            tallies.push(NORMALISE);
+        } else {
+            aims.retain(|aim| aim.call != NORMALISE.0);
+        }
+        let report = Report { entry_counts: vec![0; 65], ..Report::new(&tallies, &aims) };
+        Bundles {
+            calls,
+            report,
+            aims,
+            bundle: Inputs::new(),
+            device: Inputs::new(),
+            output: Output::new(),
+            scratch: scratch(),
+            case: Case { bundle: Vec::new(), zeros: 0, device: Vec::new(), room: Room::Exact },
+        }
+    }
+
+    /// Runs the case through every call. The numbers of check, pick and normalise.
+    fn compare(&mut self) -> Result<[(&'static str, u64); 3], Difference> {
+        self.bundle.lend(&self.case.bundle, self.case.zeros);
+        self.device.lend(&self.case.device, 0);
+        let checked = self.compare_check()?;
+        let picked = self.compare_pick()?;
+        let written = self.calls.normalise.map_or(Ok(Written::default()), |calls| self.compare_normalise(calls))?;
+        let kept = self.bundle.lent().starts_with(&self.case.bundle) && self.device.lent() == self.case.device;
+        holds("all", kept, KEPT, &"changed")?;
+        let numbers = [(CHECK.0, checked.number), (PICK.0, picked.number), (NORMALISE.0, written.number)];
+        for (call, number) in numbers {
+            self.report.count(call, number);
+        }
+        if checked.number == OK {
+            self.report.entry_counts[checked.count as usize] += 1;
+        }
+        Ok(numbers)
+    }
+
+    fn compare_check(&self) -> Result<Checked, Difference> {
+        let model = check(self.bundle.lent());
+        let library = (self.calls.check)(self.bundle.lent());
+        same("check", &model, &library)?;
+        let zeros = if library.number == 0 { library.place == 0 } else { library.count == 0 };
+        holds("check", zeros, ZEROS, &library)?;
+        Ok(model)
+    }
+
+    fn compare_pick(&self) -> Result<Picked, Difference> {
+        let model = pick(self.bundle.lent(), self.device.lent());
+        let library = (self.calls.pick)(self.bundle.lent(), self.device.lent());
+        same("pick", &model, &library)?;
+        let others = [library.index, library.position, library.size];
+        let zeros = if library.number == 0 { library.place == 0 } else { others == [0; 3] };
+        holds("pick", zeros, ZEROS, &library)?;
+        Ok(model)
+    }
+
+    fn compare_normalise(&mut self, calls: NormaliseCalls) -> Result<Written, Difference> {
+        let bundle = self.bundle.lent();
+        let wanted = wanted_length(&mut self.scratch, |out| normalise(bundle, out));
+        let room = self.case.room.bytes(wanted);
+        let mut expected = Output::pattern(room);
+        let model = normalise(bundle, &mut expected);
+        let mut number_of = |call: fn(&[u8], &mut [u8]) -> u64| {
+            let number = call(bundle, self.output.lend(room));
+            holds("normalise", self.output.holds(&expected), WRITTEN, &number)?;
+            Ok(number)
+        };
+        let library = Written {
+            number: number_of(calls.number)?,
+            place: number_of(calls.place)?,
+            length: number_of(calls.length)?,
+        };
+        same("normalise", &model, &library)?;
+        let zeros = if library.number == 0 { library.place == 0 } else { library.length == 0 };
+        holds("normalise", zeros, ZEROS, &library)?;
+        Ok(model)
+    }
+
+    /// Runs the case, and counts it for an aim.
+    fn run_case(&mut self, case: Case, aim: Option<usize>) -> Result<(), Difference> {
+        self.case = case;
+        let numbers = self.compare()?;
+        if let Some(aim) = aim {
+            let number = numbers.iter().find(|(call, _)| *call == self.aims[aim].call).expect("a call").1;
+            self.report.aimed(aim, number);
+        }
+        Ok(())
+    }
+}
+
+impl Family for Bundles {
+    fn name(&self) -> &'static str {
+        "bundles"
+    }
+
+    /// The examples of document 01, and each real bundle with each device name.
+    fn run_fixed(&mut self) -> Result<u64, Difference> {
+        let mut cases = bundle_cases();
+        for sample in samples::BUNDLES {
+            for device in samples::DEVICES {
+                let (bundle, device) = (sample.bytes.to_vec(), device.as_bytes().to_vec());
+                cases.push(Case { bundle, zeros: 0, device, room: Room::Exact });
+            }
+        }
+        let count = cases.len() as u64;
+        for case in cases {
+            self.run_case(case, None)?;
+        }
+        Ok(count)
+    }
+
+    fn run(&mut self, random: &mut Random) -> Result<(), Difference> {
+        if random.one_in(50) {
+            return self.run_case(sample_case(random), None);
+        }
+        let count = some_count(random);
+        let mut draft = Draft::good(random, count);
+        let aim = apply_aims(&self.aims, &mut draft, random);
+        let mut case = draft.case();
+        if random.one_in(12) {
+            shake(&mut case, random);
+            return self.run_case(case, None);
+        }
+        self.run_case(case, aim)
+    }
+
+    fn report(&self) -> &Report {
+        &self.report
+    }
+
+    fn files(&self) -> Vec<(&'static str, Vec<u8>)> {
+        let notes = format!("zero bytes after the bundle: {}\nroom: {:?}\n", self.case.zeros, self.case.room);
+        vec![
+            ("bundle", self.case.bundle.clone()),
+            ("device", self.case.device.clone()),
+            ("notes.txt", notes.into_bytes()),
+        ]
+    }
+}

@@ -1,0 +1,168 @@
+//! The comparison itself: against the model it finds nothing and meets every line; against a library with a slip it finds it.
+
+use super::*;
+use crate::calls::{BundleCalls, NormaliseCalls, MODEL, MODEL_BINARY_READER, MODEL_BINARY_WRITER, MODEL_BUNDLE_WRITER};
+use crate::model::bundle::{check, entries, normalise, pick, Checked, Picked};
+use crate::model::id::{meaning, same_target, Meaning};
+use crate::model::{integer, COUNT, LENGTH, NONE, RANGE, TWICE};
+
+fn run(family: &mut dyn Family, cases: u64) -> Result<(), Difference> {
+    family.run_fixed()?;
+    for case in 0..cases {
+        family.run(&mut Random::of_case(1, case))?;
+    }
+    Ok(())
+}
+
+fn meets_every_line(mut family: impl Family) {
+    run(&mut family, 20_000).unwrap();
+    assert_eq!(family.report().missing(), Vec::<String>::new());
+}
+
+#[test]
+fn bundles_meet_every_line() {
+    meets_every_line(bundles::Bundles::new(MODEL));
+}
+
+#[test]
+fn the_bundle_writer_meets_every_line() {
+    meets_every_line(bundle_writer::BundleWriters::new(MODEL_BUNDLE_WRITER));
+}
+
+#[test]
+fn binaries_meet_every_line() {
+    meets_every_line(binaries::Binaries::new(MODEL_BINARY_READER));
+}
+
+#[test]
+fn the_binary_writer_meets_every_line() {
+    meets_every_line(binary_writer::BinaryWriters::new(MODEL_BINARY_WRITER));
+}
+
+/// The call in which the first difference shows.
+fn found_in(calls: BundleCalls) -> &'static str {
+    run(&mut bundles::Bundles::new(calls), 8000).expect_err("a slip that was not found").call
+}
+
+/// Offset, size and ID of each row of a table that is whole.
+fn rows(bundle: &[u8]) -> Vec<(u64, u64, &[u8])> {
+    let mut at = 32;
+    let mut rows = Vec::new();
+    for _ in 0..integer(bundle, 24, 8) {
+        let end = at + 24 + integer(bundle, at + 16, 8) as usize;
+        rows.push((integer(bundle, at, 8), integer(bundle, at + 8, 8), &bundle[at + 24..end]));
+        at = end;
+    }
+    rows
+}
+
+#[test]
+fn a_lost_place_is_found() {
+    let check = |bundle: &[u8]| Checked { place: 0, ..check(bundle) };
+    assert_eq!(found_in(BundleCalls { check, ..MODEL }), "check");
+}
+
+#[test]
+fn a_count_beside_a_refusal_is_found() {
+    let check = |bundle: &[u8]| match check(bundle) {
+        refused if refused.number > COUNT => Checked { count: integer(bundle, 24, 8), ..refused },
+        checked => checked,
+    };
+    assert_eq!(found_in(BundleCalls { check, ..MODEL }), "check");
+}
+
+#[test]
+fn a_size_limit_that_is_one_off_is_found() {
+    let below = |bundle: &[u8]| match bundle.len() as u128 {
+        SIZE_LIMIT => Checked { number: LENGTH, place: 0, count: 0 },
+        _ => check(bundle),
+    };
+    assert_eq!(found_in(BundleCalls { check: below, ..MODEL }), "check");
+    let above = |bundle: &[u8]| check(&bundle[..bundle.len().min(SIZE_LIMIT as usize)]);
+    assert_eq!(found_in(BundleCalls { check: above, ..MODEL }), "check");
+}
+
+#[test]
+fn a_sum_that_wraps_is_found() {
+    let check = |bundle: &[u8]| {
+        let checked = check(bundle);
+        if checked.number != RANGE {
+            return checked;
+        }
+        let (offset, size, _) = rows(bundle)[checked.place as usize];
+        match offset.wrapping_add(size) <= bundle.len() as u64 && offset > 20_000 {
+            true => Checked { number: OK, place: 0, count: integer(bundle, 24, 8) },
+            false => checked,
+        }
+    };
+    assert_eq!(found_in(BundleCalls { check, ..MODEL }), "check");
+}
+
+#[test]
+fn twice_by_bytes_is_found() {
+    let check = |bundle: &[u8]| {
+        let checked = check(bundle);
+        if checked.number != TWICE {
+            return checked;
+        }
+        let (rows, place) = (rows(bundle), checked.place as usize);
+        match rows[..place].iter().any(|row| row.2 == rows[place].2) {
+            true => checked,
+            false => Checked { number: OK, place: 0, count: rows.len() as u64 },
+        }
+    };
+    assert_eq!(found_in(BundleCalls { check, ..MODEL }), "check");
+}
+
+#[test]
+fn an_unstated_feature_taken_as_a_match_is_found() {
+    let pick = |bundle: &[u8], device: &[u8]| {
+        let picked = pick(bundle, device);
+        if picked.number != NONE {
+            return picked;
+        }
+        let device = meaning(device).unwrap();
+        let fits = |entry: &Meaning| {
+            entry.features.iter().all(|(name, sign)| device.features.get(name).unwrap_or(sign) == sign)
+        };
+        let found = entries(bundle)
+            .unwrap()
+            .into_iter()
+            .find(|entry| same_target(&entry.meaning, &device) && fits(&entry.meaning));
+        found.map_or(picked, |entry| Picked { number: OK, position: entry.offset, ..Picked::default() })
+    };
+    assert_eq!(found_in(BundleCalls { pick, ..MODEL }), "pick");
+}
+
+#[test]
+fn hip_taken_for_hipv4_is_found() {
+    let pick = |bundle: &[u8], device: &[u8]| match device.strip_prefix(b"hipv4") {
+        Some(rest) if pick(bundle, device).number == NONE => pick(bundle, &[b"hip", rest].concat()),
+        _ => pick(bundle, device),
+    };
+    assert_eq!(found_in(BundleCalls { pick, ..MODEL }), "pick");
+}
+
+fn normalise_number(number: fn(&[u8], &mut [u8]) -> u64) -> BundleCalls {
+    BundleCalls { normalise: MODEL.normalise.map(|calls| NormaliseCalls { number, ..calls }), ..MODEL }
+}
+
+#[test]
+fn a_byte_written_beside_the_output_is_found() {
+    let beyond = normalise_number(|bundle, out| {
+        let written = normalise(bundle, out);
+        if let Some(byte) = out.get_mut(written.length as usize) {
+            *byte ^= 1;
+        }
+        written.number
+    });
+    assert_eq!(found_in(beyond), "normalise");
+    let on_refusal = normalise_number(|bundle, out| {
+        let written = normalise(bundle, out);
+        if written.number == ROOM && !out.is_empty() {
+            out[0] = bundle[0];
+        }
+        written.number
+    });
+    assert_eq!(found_in(on_refusal), "normalise");
+}

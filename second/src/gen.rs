@@ -1,0 +1,71 @@
+//! The seeded generator of cases: good ones of every shape, and damage aimed at each number on both sides of each limit.
+
+pub mod binaries;
+pub mod binary_contents;
+pub mod bundles;
+pub mod examples;
+pub mod ids;
+pub mod random;
+pub mod records;
+
+use crate::model::SIZE_LIMIT;
+use random::Random;
+
+/// What an aim does to a case that is being made.
+pub type Make<Draft> = Box<dyn Fn(&mut Draft, &mut Random)>;
+
+/// One thing a case can be aimed at: a line of document 01, on one side. The number is what the call has to give.
+pub struct Aim<Draft> {
+    pub name: String,
+    pub call: &'static str,
+    pub number: u64,
+    pub make: Make<Draft>,
+}
+
+impl<Draft> Aim<Draft> {
+    pub fn new(
+        call: &'static str,
+        number: u64,
+        name: impl Into<String>,
+        make: impl Fn(&mut Draft, &mut Random) + 'static,
+    ) -> Aim<Draft> {
+        Aim { name: name.into(), call, number, make: Box::new(make) }
+    }
+}
+
+/// How long a lent output is, seen from the length that would be written.
+#[derive(Clone, Copy, Debug)]
+pub enum Room {
+    Exact,
+    Spare(usize),
+    Short(usize),
+    Nothing,
+}
+
+impl Room {
+    pub fn any(random: &mut Random) -> Room {
+        match random.below(6) {
+            0 | 1 => Room::Exact,
+            2 | 3 => Room::Spare(random.between(1, 40)),
+            4 => Room::Short(random.between(1, 40)),
+            _ => Room::Nothing,
+        }
+    }
+
+    /// Outputs above a mebibyte are never lent: the model says BIG or ROOM there.
+    pub fn bytes(self, length: u128) -> usize {
+        if length > 1 << 20 {
+            return 64;
+        }
+        let length = length as usize;
+        match self {
+            Room::Exact => length,
+            Room::Spare(more) => length + more,
+            Room::Short(less) => length.saturating_sub(less),
+            Room::Nothing => 0,
+        }
+    }
+}
+
+/// A container of the size limit, in bytes.
+pub const LIMIT: usize = SIZE_LIMIT as usize;

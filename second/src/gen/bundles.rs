@@ -1,0 +1,669 @@
+//! Bundles with a device name and a length for the lent output.
+
+use super::ids::{self, IdMaker, BROKEN, EDGES};
+use super::random::Random;
+use super::{Aim, Room, LIMIT};
+use crate::model::bundle::MAGIC_BYTES;
+use crate::model::id::{meaning, Meaning, Sign};
+use crate::model::*;
+use crate::samples;
+
+#[derive(Clone, Copy, Debug)]
+pub enum Offset {
+    /// Counted from the table end, so that it stays right when an ID changes.
+    AfterTable(u64),
+    Exactly(u64),
+}
+
+#[derive(Clone, Debug)]
+pub struct Row {
+    pub meaning: Meaning,
+    pub id: Vec<u8>,
+    pub id_length: u64,
+    pub offset: Offset,
+    pub size: u64,
+}
+
+/// A bundle while it is made.
+#[derive(Clone, Debug)]
+pub struct Draft {
+    pub magic: Vec<u8>,
+    pub count: u64,
+    pub rows: Vec<Row>,
+    /// What follows the table.
+    pub body: Vec<u8>,
+    /// So many zero bytes follow the body.
+    pub zeros: usize,
+    /// The bundle ends here, if it is cut short.
+    pub cut: Option<usize>,
+    pub device: Vec<u8>,
+    pub room: Room,
+}
+
+/// What is lent: the bytes are followed by `zeros` zero bytes.
+#[derive(Clone, Debug)]
+pub struct Case {
+    pub bundle: Vec<u8>,
+    pub zeros: usize,
+    pub device: Vec<u8>,
+    pub room: Room,
+}
+
+impl Row {
+    fn new(random: &mut Random, meaning: Meaning, offset: Offset, size: u64) -> Row {
+        let id = ids::spelled(random, &meaning);
+        Row { meaning, id_length: id.len() as u64, id, offset, size }
+    }
+
+    fn set_id(&mut self, id: Vec<u8>) {
+        self.id_length = id.len() as u64;
+        self.id = id;
+    }
+
+    fn set_image(&mut self, offset: u64, size: u64) {
+        self.offset = Offset::Exactly(offset);
+        self.size = size;
+    }
+}
+
+impl Draft {
+    /// A bundle that is accepted, with so many entries.
+    pub fn good(random: &mut Random, count: usize) -> Draft {
+        let body_length = if random.one_in(20) { random.between(0, 2000) } else { random.between(0, 80) };
+        let body = random.bytes(body_length);
+        let meanings = ids::composed(random, count);
+        let spans = spans(random, count, body_length);
+        let rows: Vec<Row> = meanings
+            .into_iter()
+            .zip(spans)
+            .map(|(meaning, (start, size))| Row::new(random, meaning, Offset::AfterTable(start as u64), size as u64))
+            .collect();
+        let mut draft = Draft {
+            magic: MAGIC_BYTES.to_vec(),
+            count: count as u64,
+            rows,
+            body,
+            zeros: 0,
+            cut: None,
+            device: Vec::new(),
+            room: Room::any(random),
+        };
+        draft.device = draft.likely_device(random);
+        draft
+    }
+
+    /// A device name that has often a compatible entry.
+    fn likely_device(&self, random: &mut Random) -> Vec<u8> {
+        if self.rows.is_empty() || random.one_in(8) {
+            let meaning = ids::some_meaning(random);
+            return ids::spelled(random, &meaning);
+        }
+        let entry = random.choose(&self.rows);
+        let device = ids::with_more_features(random, &entry.meaning);
+        ids::spelled(random, &device)
+    }
+
+    pub fn table_end(&self) -> u64 {
+        self.row_at(self.rows.len())
+    }
+
+    /// The first byte of a row.
+    fn row_at(&self, index: usize) -> u64 {
+        32 + self.rows[..index].iter().map(|row| 24 + row.id.len() as u64).sum::<u64>()
+    }
+
+    pub fn length(&self) -> u64 {
+        self.table_end() + self.body.len() as u64 + self.zeros as u64
+    }
+
+    pub fn bytes(&self) -> Vec<u8> {
+        let table_end = self.table_end();
+        let mut bytes = self.magic.clone();
+        bytes.extend(self.count.to_le_bytes());
+        for row in &self.rows {
+            let offset = match row.offset {
+                Offset::AfterTable(start) => table_end + start,
+                Offset::Exactly(offset) => offset,
+            };
+            bytes.extend(offset.to_le_bytes());
+            bytes.extend(row.size.to_le_bytes());
+            bytes.extend(row.id_length.to_le_bytes());
+            bytes.extend(&row.id);
+        }
+        bytes.extend(&self.body);
+        bytes.truncate(self.cut.unwrap_or(bytes.len()));
+        bytes
+    }
+
+    pub fn case(&self) -> Case {
+        let zeros = if self.cut.is_some() { 0 } else { self.zeros };
+        Case { bundle: self.bytes(), zeros, device: self.device.clone(), room: self.room }
+    }
+
+    /// A row anywhere; where 64 stand already, it takes the place of one.
+    fn put_row(&mut self, random: &mut Random, row: Row) -> usize {
+        if self.rows.len() >= 64 {
+            let at = random.below(self.rows.len());
+            self.rows[at] = row;
+            return at;
+        }
+        let at = random.between(0, self.rows.len());
+        self.rows.insert(at, row);
+        self.count = self.rows.len() as u64;
+        at
+    }
+
+    /// The index of some row; one is put in if there is none.
+    fn some_row(&mut self, random: &mut Random) -> usize {
+        if self.rows.is_empty() {
+            let meaning = ids::some_meaning(random);
+            self.put_meaning(random, meaning);
+        }
+        random.below(self.rows.len())
+    }
+
+    fn put_meaning(&mut self, random: &mut Random, meaning: Meaning) -> usize {
+        let row = Row::new(random, meaning, Offset::AfterTable(0), 0);
+        self.put_row(random, row)
+    }
+
+    /// An entry at the limits, with this ID as spelled; its meaning is there once.
+    fn put_id(&mut self, random: &mut Random, id: Vec<u8>) {
+        let meaning = meaning(&id).expect("an ID that keeps the rules");
+        let at = self.put_meaning(random, meaning);
+        self.rows[at].set_id(id);
+    }
+
+    /// No image, and nothing after the table.
+    fn drop_images(&mut self) {
+        self.body.clear();
+        for row in &mut self.rows {
+            row.offset = Offset::AfterTable(0);
+            row.size = 0;
+        }
+    }
+}
+
+/// 0 to 64 entries, mostly few.
+pub fn some_count(random: &mut Random) -> usize {
+    match random.below(40) {
+        0 => 0,
+        1..=24 => random.between(1, 4),
+        25..=34 => random.between(5, 12),
+        35..=37 => random.between(13, 40),
+        38 => random.between(41, 63),
+        _ => 64,
+    }
+}
+
+/// Starts and sizes of images in a body: packed, in any order, with gaps, shared, overlapping, empty.
+fn spans(random: &mut Random, count: usize, length: usize) -> Vec<(usize, usize)> {
+    match random.below(4) {
+        0 => packed_spans(random, count, length, 0),
+        1 => packed_spans(random, count, length, 5),
+        2 => vec![any_span(random, length); count],
+        _ => (0..count).map(|_| any_span(random, length)).collect(),
+    }
+}
+
+fn any_span(random: &mut Random, length: usize) -> (usize, usize) {
+    let start = random.between(0, length);
+    let size = if random.one_in(4) { 0 } else { random.between(0, length - start) };
+    (start, size)
+}
+
+/// Images one after the other, with gaps up to a size, then given to the entries in any order.
+fn packed_spans(random: &mut Random, count: usize, length: usize, gap: usize) -> Vec<(usize, usize)> {
+    let mut at = 0;
+    let mut spans = Vec::new();
+    for _ in 0..count {
+        let start = (at + random.between(0, gap)).min(length);
+        let size = random.between(0, 12).min(length - start);
+        spans.push((start, size));
+        at = start + size;
+    }
+    random.shuffle(&mut spans);
+    spans
+}
+
+/// A real bundle, sometimes with damage in its table.
+pub fn sample_case(random: &mut Random) -> Case {
+    let sample = random.choose(samples::BUNDLES);
+    let mut bundle = sample.bytes.to_vec();
+    let table_end = 32 + sample.entries.iter().map(|(id, _)| 24 + id.len()).sum::<usize>();
+    match random.below(4) {
+        0 => {}
+        1 => bundle.truncate(random.below(sample.bytes.len())),
+        2 => bundle.truncate(random.below(table_end)),
+        _ => {
+            let at = random.below(table_end.min(bundle.len()));
+            bundle[at] = random.byte();
+        }
+    }
+    let device = random.choose(samples::DEVICES).as_bytes().to_vec();
+    Case { bundle, zeros: 0, device, room: Room::any(random) }
+}
+
+/// Bytes changed, put in or taken out, anywhere in the table.
+pub fn shake(case: &mut Case, random: &mut Random) {
+    for _ in 0..random.between(1, 3) {
+        let at = random.below(case.bundle.len().max(1)).min(case.bundle.len());
+        match random.below(3) {
+            0 if at < case.bundle.len() => case.bundle[at] = random.byte(),
+            1 if at < case.bundle.len() => drop(case.bundle.remove(at)),
+            _ => case.bundle.insert(at, random.byte()),
+        }
+    }
+}
+
+pub fn aims() -> Vec<Aim<Draft>> {
+    let mut aims = Vec::new();
+    aims.extend(shape_aims());
+    aims.extend(head_aims());
+    aims.extend(table_aims());
+    aims.extend(id_aims());
+    aims.extend(range_aims());
+    aims.extend(composition_aims());
+    aims.extend(device_aims());
+    aims.extend(normal_form_aims());
+    aims
+}
+
+type BundleAim = Aim<Draft>;
+
+fn check(number: u64, name: &str, make: impl Fn(&mut Draft, &mut Random) + 'static) -> BundleAim {
+    Aim::new("check", number, name, make)
+}
+
+fn pick(number: u64, name: &str, make: impl Fn(&mut Draft, &mut Random) + 'static) -> BundleAim {
+    Aim::new("pick", number, name, make)
+}
+
+fn normalise(number: u64, name: &str, make: impl Fn(&mut Draft, &mut Random) + 'static) -> BundleAim {
+    Aim::new("normalise", number, name, make)
+}
+
+/// Accepted bundles of every shape.
+fn shape_aims() -> Vec<BundleAim> {
+    vec![
+        check(OK, "any entries", |_, _| {}),
+        check(OK, "0 to 64 entries", |draft, random| {
+            let count = random.between(0, 64);
+            *draft = Draft::good(random, count);
+        }),
+        check(OK, "no entries", |draft, random| *draft = Draft::good(random, 0)),
+        check(OK, "1 entry", |draft, random| *draft = Draft::good(random, 1)),
+        check(OK, "63 entries", |draft, random| *draft = Draft::good(random, 63)),
+        check(OK, "64 entries", |draft, random| *draft = Draft::good(random, 64)),
+        check(OK, "nothing after the table", |draft, _| draft.drop_images()),
+        check(OK, "fewer counted than stand there", |draft, random| {
+            draft.some_row(random);
+            draft.count = draft.count.wrapping_sub(1);
+        }),
+        check(OK, "container of the size limit", |draft, _| fill_to(draft, LIMIT)),
+    ]
+}
+
+/// Zero bytes up to a length of the container.
+fn fill_to(draft: &mut Draft, length: usize) {
+    draft.zeros = length - draft.table_end() as usize - draft.body.len();
+}
+
+/// 1, 2 and 3.
+fn head_aims() -> Vec<BundleAim> {
+    vec![
+        check(LENGTH, "container 1 above the size limit", |draft, _| fill_to(draft, LIMIT + 1)),
+        check(LENGTH, "container above the size limit", |draft, random| {
+            fill_to(draft, LIMIT + random.between(2, 4096))
+        }),
+        check(LENGTH, "above the size limit, wrong magic", |draft, random| {
+            fill_to(draft, LIMIT + 1);
+            change_magic(draft, random);
+        }),
+        check(MAGIC, "no bytes", |draft, _| draft.cut = Some(0)),
+        check(MAGIC, "under 24 bytes", |draft, random| draft.cut = Some(random.below(24))),
+        check(MAGIC, "23 bytes", |draft, _| draft.cut = Some(23)),
+        check(MAGIC, "wrong magic", change_magic),
+        check(COUNT, "24 bytes", |draft, _| draft.cut = Some(24)),
+        check(COUNT, "under 32 bytes", |draft, random| draft.cut = Some(random.between(24, 31))),
+        check(COUNT, "31 bytes", |draft, _| draft.cut = Some(31)),
+        check(COUNT, "65 entries", |draft, random| {
+            *draft = Draft::good(random, 65);
+        }),
+        check(COUNT, "count of 65 before fewer entries", |draft, _| draft.count = 65),
+        check(COUNT, "count of 2^64 - 1", |draft, _| draft.count = u64::MAX),
+        check(COUNT, "count with one high bit more", |draft, random| draft.count ^= 1 << random.between(7, 63)),
+    ]
+}
+
+fn change_magic(draft: &mut Draft, random: &mut Random) {
+    let at = random.below(24);
+    draft.magic[at] ^= 1 << random.below(8);
+}
+
+/// 4.
+fn table_aims() -> Vec<BundleAim> {
+    vec![
+        check(TABLE, "cut inside the table", |draft, random| {
+            draft.some_row(random);
+            draft.cut = Some(random.between(32, draft.table_end() as usize - 1));
+        }),
+        check(TABLE, "last ID 1 byte short", |draft, random| {
+            draft.some_row(random);
+            draft.cut = Some(draft.table_end() as usize - 1);
+        }),
+        check(TABLE, "last entry's 24 bytes 1 byte short", |draft, random| {
+            draft.some_row(random);
+            draft.cut = Some(draft.row_at(draft.rows.len() - 1) as usize + 23);
+        }),
+        check(TABLE, "last entry with no byte of its ID", |draft, random| {
+            draft.some_row(random);
+            draft.cut = Some(draft.row_at(draft.rows.len() - 1) as usize + 24);
+        }),
+        check(TABLE, "one more counted than stands there", |draft, random| {
+            if draft.rows.len() < 64 {
+                draft.drop_images();
+                draft.count = draft.count.wrapping_add(1);
+                draft.body = random.bytes(draft.rows.len() % 24);
+            }
+        }),
+        id_length(TABLE, "ID length of 0", |_, _, _| 0),
+        id_length(TABLE, "ID length of 257", |_, _, _| 257),
+        id_length(TABLE, "ID length of 2^64 - 1", |_, _, _| u64::MAX),
+        id_length(TABLE, "ID length that wraps", |draft, at, random| {
+            let id_at = draft.row_at(at) + 24;
+            id_at.wrapping_neg() + random.below(id_at as usize) as u64
+        }),
+        id_length(TABLE, "ID length with one high bit more", |draft, at, random| {
+            draft.rows[at].id_length ^ (1 << random.between(9, 63))
+        }),
+        check(TABLE, "ID length 1 past the end", |draft, random| {
+            draft.some_row(random);
+            draft.drop_images();
+            let row = draft.rows.last_mut().expect("a row");
+            row.id_length = row.id.len() as u64 + 1;
+        }),
+        check(TABLE, "ID of 257 bytes", |draft, random| {
+            let at = draft.some_row(random);
+            let id = ids::of_length(random, 6, 257);
+            draft.rows[at].set_id(id);
+        }),
+    ]
+}
+
+/// Another ID length in some row.
+fn id_length(number: u64, name: &str, length: fn(&Draft, usize, &mut Random) -> u64) -> BundleAim {
+    check(number, name, move |draft, random| {
+        let at = draft.some_row(random);
+        draft.rows[at].id_length = length(draft, at, random);
+    })
+}
+
+/// 5, and IDs at the limits.
+fn id_aims() -> Vec<BundleAim> {
+    let edge = |maker: &IdMaker| {
+        let make = maker.make;
+        check(OK, &format!("entry: {}", maker.name), move |draft, random| {
+            let id = make(random);
+            draft.put_id(random, id);
+        })
+    };
+    let broken = |maker: &IdMaker| {
+        let make = maker.make;
+        check(ID, &format!("entry: {}", maker.name), move |draft, random| {
+            let at = draft.some_row(random);
+            draft.rows[at].set_id(make(random));
+        })
+    };
+    EDGES.iter().map(edge).chain(BROKEN.iter().map(broken)).collect()
+}
+
+/// 6, with the container's length and table end as they will be.
+fn range_aims() -> Vec<BundleAim> {
+    vec![
+        image(OK, "offset at the table end", |end, length, random| {
+            (end, random.between(0, (length - end) as usize) as u64)
+        }),
+        image(OK, "image to the last byte", |end, length, random| {
+            let offset = random.between(end as usize, length as usize) as u64;
+            (offset, length - offset)
+        }),
+        image(OK, "offset at the length, size 0", |_, length, _| (length, 0)),
+        image(RANGE, "offset at the length, size 1", |_, length, _| (length, 1)),
+        image(RANGE, "offset 1 past the length, size 0", |_, length, _| (length + 1, 0)),
+        image(RANGE, "end 1 past the length", |end, length, random| {
+            let offset = random.between(end as usize, length as usize) as u64;
+            (offset, length - offset + 1)
+        }),
+        image(RANGE, "offset 1 before the table end", |end, _, random| (end - 1, random.below(2) as u64)),
+        image(RANGE, "offset inside the table", |end, length, random| {
+            let offset = random.below(end as usize);
+            (offset as u64, random.between(0, length as usize - offset) as u64)
+        }),
+        image(RANGE, "offset of 2^64 - 1, size 0", |_, _, _| (u64::MAX, 0)),
+        image(RANGE, "offset of 2^64 - 1, size 1", |_, _, _| (u64::MAX, 1)),
+        image(RANGE, "offset of 2^64 - 1, sum wraps", |_, length, random| {
+            (u64::MAX, random.between(1, length as usize + 1) as u64)
+        }),
+        image(RANGE, "offset and size of 2^64 - 1", |_, _, _| (u64::MAX, u64::MAX)),
+        image(RANGE, "size of 2^64 - 1", |end, length, random| {
+            (random.between(end as usize, length as usize) as u64, u64::MAX)
+        }),
+        image(RANGE, "size that wraps", |end, length, random| {
+            let offset = random.between(end as usize, length as usize) as u64;
+            (offset, offset.wrapping_neg() + random.below(offset as usize) as u64)
+        }),
+        image(RANGE, "offset that wraps", |_, length, random| {
+            let size = random.between(1, length as usize) as u64;
+            (size.wrapping_neg() + random.below(size as usize) as u64, size)
+        }),
+        image(RANGE, "offset and size of 2^63", |_, _, _| (1 << 63, 1 << 63)),
+        image(RANGE, "offset with one high bit more", |end, _, random| (end + (1 << random.between(32, 63)), 0)),
+        image(RANGE, "size with one high bit more", |end, _, random| (end, 1 << random.between(32, 63))),
+        check(OK, "container of the size limit, offset at the length, size 0", |draft, random| {
+            at_limit(draft, random, 0)
+        }),
+        check(RANGE, "container of the size limit, offset at the length, size 1", |draft, random| {
+            at_limit(draft, random, 1)
+        }),
+    ]
+}
+
+/// Another offset and size in some row, from the table end and the length.
+fn image(number: u64, name: &str, place: fn(u64, u64, &mut Random) -> (u64, u64)) -> BundleAim {
+    check(number, name, move |draft, random| {
+        let at = draft.some_row(random);
+        let (offset, size) = place(draft.table_end(), draft.length(), random);
+        draft.rows[at].set_image(offset, size);
+    })
+}
+
+fn at_limit(draft: &mut Draft, random: &mut Random, size: u64) {
+    let at = draft.some_row(random);
+    fill_to(draft, LIMIT);
+    draft.rows[at].set_image(LIMIT as u64, size);
+}
+
+/// 7 and 8, and neighbours of them that are accepted.
+fn composition_aims() -> Vec<BundleAim> {
+    vec![
+        check(TWICE, "a meaning twice", |draft, random| {
+            let at = draft.some_row(random);
+            let meaning = draft.rows[at].meaning.clone();
+            draft.put_meaning(random, meaning);
+        }),
+        check(TWICE, "an ID twice", |draft, random| {
+            let at = draft.some_row(random);
+            let row = draft.rows[at].clone();
+            draft.put_row(random, row);
+        }),
+        check(MIXED, "a feature more", |draft, random| {
+            beside(draft, random, |meaning, random| {
+                meaning.features.insert(b"only_here".to_vec(), *random.choose(&[Sign::On, Sign::Off]));
+            })
+        }),
+        check(MIXED, "a feature less", |draft, random| {
+            beside(draft, random, |meaning, _| {
+                meaning.features.pop_first();
+            })
+        }),
+        check(MIXED, "another feature", |draft, random| {
+            beside(draft, random, |meaning, _| {
+                meaning.features.pop_last();
+                meaning.features.insert(b"only_here".to_vec(), Sign::On);
+            })
+        }),
+        check(OK, "another sign", |draft, random| {
+            beside(draft, random, |meaning, _| {
+                let sign = meaning.features.values_mut().next().expect("a feature");
+                *sign = ids::other_sign(*sign);
+            })
+        }),
+        check(OK, "hip beside hipv4", |draft, random| {
+            beside(draft, random, |meaning, _| {
+                let other: &[u8] = if meaning.kind == b"hip" { b"hipv4" } else { b"hip" };
+                meaning.kind = other.to_vec();
+            })
+        }),
+        check(OK, "another processor", |draft, random| {
+            beside(draft, random, |meaning, random| {
+                meaning.processor.as_mut().expect("a processor").push(*random.choose(b"abc_."));
+                meaning.features.pop_first();
+            })
+        }),
+    ]
+}
+
+/// Puts an entry with one to four features into the bundle, and beside it what a change makes of it.
+fn beside(draft: &mut Draft, random: &mut Random, change: fn(&mut Meaning, &mut Random)) {
+    draft.rows.truncate(60);
+    let mut one = entry_with_features(random);
+    let mut other = one.clone();
+    change(&mut other, random);
+    if random.one_in(2) {
+        std::mem::swap(&mut one, &mut other);
+    }
+    draft.put_meaning(random, one);
+    draft.put_meaning(random, other);
+}
+
+fn entry_with_features(random: &mut Random) -> Meaning {
+    let count = random.between(1, 4);
+    ids::with_feature_count(random, count)
+}
+
+/// 9 and 10, and device names that get an image.
+fn device_aims() -> Vec<BundleAim> {
+    let mut aims = vec![
+        pick(OK, "device: an entry's ID", |draft, random| {
+            let at = draft.some_row(random);
+            draft.device = draft.rows[at].id.clone();
+        }),
+        pick(OK, "device: an entry's meaning", |draft, random| {
+            let at = draft.some_row(random);
+            draft.device = ids::spelled(random, &draft.rows[at].meaning);
+        }),
+        pick(OK, "device: more features", |draft, random| {
+            let at = draft.some_row(random);
+            let device = ids::with_more_features(random, &draft.rows[at].meaning);
+            draft.device = ids::spelled(random, &device);
+        }),
+        pick(OK, "device: one of 64 entries", |draft, random| *draft = Draft::good(random, 64)),
+        pick(NONE, "device: no entries", |draft, random| *draft = Draft::good(random, 0)),
+        pick(QUERY, "device: no bytes", |draft, _| draft.device.clear()),
+        pick(QUERY, "device: 257 bytes", |draft, random| draft.device = ids::of_length(random, 6, 257)),
+        pick(QUERY, "device: above 257 bytes", |draft, random| {
+            let length = random.between(258, 2000);
+            draft.device = ids::of_length(random, 6, length);
+        }),
+        pick(QUERY, "device: a byte put in", |draft, random| {
+            let at = random.between(0, draft.device.len());
+            draft.device.insert(at, *random.choose(b"-:+. /\0\xff"));
+        }),
+        asks(NONE, "device: another sign", |device, _| {
+            let sign = device.features.values_mut().next().expect("a feature");
+            *sign = ids::other_sign(*sign);
+        }),
+        asks(NONE, "device: a feature less", |device, _| drop(device.features.pop_last())),
+        asks(NONE, "device: no feature", |device, _| device.features.clear()),
+        asks(NONE, "device: another kind", |device, _| {
+            device.kind = if device.kind == b"hip" { b"hipv4".to_vec() } else { b"hip".to_vec() };
+        }),
+        asks(NONE, "device: another arch", |device, _| device.arch.push(b'x')),
+        asks(NONE, "device: another vendor", |device, _| device.vendor.push(b'x')),
+        asks(NONE, "device: another system", |device, _| device.system.push(b'x')),
+        asks(NONE, "device: another environment", |device, _| device.environment.push(b'x')),
+        asks(NONE, "device: another processor", |device, _| device.processor.as_mut().expect("one").push(b'x')),
+        asks(NONE, "device: no processor", |device, _| {
+            device.processor = None;
+            device.features.clear();
+        }),
+        pick(NONE, "device: an environment as processor", |draft, random| {
+            draft.put_id(random, b"hip-a-b-c-gfxenv-".to_vec());
+            draft.device = b"hip-a-b-c-gfxenv".to_vec();
+        }),
+    ];
+    aims.extend(EDGES.iter().map(device_at_edge));
+    aims.extend(BROKEN.iter().map(broken_device));
+    aims
+}
+
+/// The device name is what a change makes of the meaning of an entry with features.
+fn asks(number: u64, name: &str, change: fn(&mut Meaning, &mut Random)) -> BundleAim {
+    pick(number, name, move |draft, random| {
+        let entry = entry_with_features(random);
+        let mut device = entry.clone();
+        change(&mut device, random);
+        draft.put_meaning(random, entry);
+        draft.device = ids::spelled(random, &device);
+    })
+}
+
+fn device_at_edge(maker: &IdMaker) -> BundleAim {
+    let make = maker.make;
+    pick(OK, &format!("device: {}", maker.name), move |draft, random| {
+        let id = make(random);
+        draft.put_id(random, id.clone());
+        draft.device = id;
+    })
+}
+
+fn broken_device(maker: &IdMaker) -> BundleAim {
+    let make = maker.make;
+    pick(QUERY, &format!("device: {}", maker.name), move |draft, random| draft.device = make(random))
+}
+
+/// 11 and 12.
+fn normal_form_aims() -> Vec<BundleAim> {
+    vec![
+        normalise(OK, "room exactly", |draft, _| draft.room = Room::Exact),
+        normalise(OK, "room to spare", |draft, random| draft.room = Room::Spare(random.between(1, 300))),
+        normalise(OK, "64 entries in normal form", |draft, random| {
+            *draft = Draft::good(random, 64);
+            draft.room = Room::Exact;
+        }),
+        normalise(ROOM, "room 1 byte short", |draft, _| draft.room = Room::Short(1)),
+        normalise(ROOM, "no room", |draft, _| draft.room = Room::Nothing),
+        normalise(ROOM, "normal form of the size limit", |draft, random| normal_length(draft, random, LIMIT)),
+        normalise(BIG, "normal form 1 above the size limit", |draft, random| normal_length(draft, random, LIMIT + 1)),
+        normalise(BIG, "normal form far above the size limit", |draft, random| {
+            *draft = Draft::good(random, 64);
+            fill_to(draft, LIMIT);
+            let (start, length) = (draft.table_end(), draft.length());
+            draft.rows.iter_mut().for_each(|row| row.set_image(start, length - start));
+        }),
+    ]
+}
+
+/// Two entries that share bytes, so that the normal form has this length in a container half as long.
+fn normal_length(draft: &mut Draft, random: &mut Random, length: usize) {
+    *draft = Draft::good(random, 0);
+    draft.put_id(random, b"hip-a-b-c-d-".to_vec());
+    draft.put_id(random, b"hip-a-b-c-e-".to_vec());
+    let images = length as u64 - draft.table_end();
+    let first = random.between((images / 2) as usize, (images / 2) as usize + 1000) as u64;
+    fill_to(draft, (draft.table_end() + first) as usize);
+    let start = draft.table_end();
+    draft.rows[0].set_image(start, first);
+    draft.rows[1].set_image(start, images - first);
+}

@@ -1,0 +1,88 @@
+//! The examples of document 01's section "Bench pieces on each side of a line" as cases. `model/examples.rs` says what comes of them.
+
+use super::{binaries, bundles, Room};
+use crate::model::binary_writer::{write_binary, Content, PairParts};
+use crate::model::bundle::packed;
+
+/// A bundle with these IDs as spelled and these images, packed.
+pub fn bundle(entries: &[(&str, &[u8])]) -> Vec<u8> {
+    let entries: Vec<(Vec<u8>, &[u8])> = entries.iter().map(|(id, image)| (id.as_bytes().to_vec(), *image)).collect();
+    packed(&entries)
+}
+
+/// The bundle with another number in an 8-byte field.
+pub fn with_field(mut bundle: Vec<u8>, at: usize, value: u64) -> Vec<u8> {
+    bundle[at..at + 8].copy_from_slice(&value.to_le_bytes());
+    bundle
+}
+
+/// Environments e0, e1 .. make as many meanings as are asked for.
+pub fn many(count: usize) -> Vec<u8> {
+    let ids: Vec<String> = (0..count).map(|k| format!("hip-a-b-c-e{k}")).collect();
+    let entries: Vec<(&str, &[u8])> = ids.iter().map(|id| (id.as_str(), &b"x"[..])).collect();
+    bundle(&entries)
+}
+
+/// One entry whose image has this size and begins where the bundle ends.
+pub fn at_the_length(size: u64) -> Vec<u8> {
+    let bytes = bundle(&[("hip-amdgcn-amd-amdhsa", b"123")]);
+    let length = bytes.len() as u64;
+    with_field(with_field(bytes, 32, length), 40, size)
+}
+
+pub const HOST: &str = "host-x86_64-unknown-linux-gnu";
+pub const SHUFFLED: &str = "hip-amdgcn-amd-amdhsa-gfx906:xnack+:sramecc-";
+pub const IN_ORDER: &str = "hip-amdgcn-amd-amdhsa--gfx906:sramecc-:xnack+";
+pub const PLAIN: &str = "hip-amdgcn-amd-amdhsa-gfx906";
+pub const BOTH_STATED: &str = "hip-amdgcn-amd-amdhsa-gfx906:sramecc+:xnack-";
+pub const XNACK_OFF: &str = "hip-amdgcn-amd-amdhsa-gfx906:xnack-";
+pub const XNACK_ON: &str = "hip-amdgcn-amd-amdhsa-gfx906:xnack+";
+pub const NO_PROCESSOR: &str = "hip-a-b-c-d-:xnack+";
+
+pub fn bundle_cases() -> Vec<bundles::Case> {
+    let case = |bundle: Vec<u8>, device: &str| bundles::Case {
+        bundle,
+        zeros: 0,
+        device: device.as_bytes().to_vec(),
+        room: Room::Exact,
+    };
+    vec![
+        case(Vec::new(), PLAIN),
+        case(bundle(&[]), PLAIN),
+        case(bundle(&[(HOST, b"12345")]), HOST),
+        case(bundle(&[(SHUFFLED, b"image")]), IN_ORDER),
+        case(bundle(&[(IN_ORDER, b"image")]), SHUFFLED),
+        case(bundle(&[(PLAIN, b"image")]), BOTH_STATED),
+        case(bundle(&[(XNACK_OFF, b"image")]), PLAIN),
+        case(bundle(&[(PLAIN, b""), (XNACK_ON, b"")]), PLAIN),
+        case(bundle(&[(SHUFFLED, b""), (IN_ORDER, b"")]), PLAIN),
+        case(at_the_length(0), HOST),
+        case(at_the_length(1), HOST),
+        case(many(64), "hip-a-b-c-e63"),
+        case(many(65), "hip-a-b-c-e63"),
+        case(with_field(bundle(&[(PLAIN, b"123")]), 48, u64::MAX), PLAIN),
+        case(bundle(&[(NO_PROCESSOR, b"")]), PLAIN),
+        case(bundle(&[(PLAIN, b"")]), NO_PROCESSOR),
+    ]
+}
+
+/// The kinds, flags and string pair of the binary with `arch`/`sm_70`; its strings and its image follow.
+pub fn sm_70() -> Content {
+    let pair = PairParts { key_start: 0, key_length: 4, text_start: 4, text_length: 5 };
+    Content { image_kind: 3, offload_kind: 2, flags: 7, pairs: vec![pair] }
+}
+pub const SM_70_STRINGS: &[u8] = b"archsm_70";
+pub const SM_70_IMAGE: &[u8] = b"img";
+
+pub fn binaries_cases() -> Vec<binaries::Case> {
+    let written = |content: &Content, strings: &[u8], image: &[u8]| {
+        let mut out = vec![0; 200];
+        let length = write_binary(content, strings, image, &mut out).length;
+        out.truncate(length as usize);
+        out
+    };
+    let empty = written(&Content::default(), b"", b"");
+    let whole = written(&sm_70(), SM_70_STRINGS, SM_70_IMAGE);
+    let containers = [Vec::new(), empty.clone(), whole.clone(), [whole, empty].concat()];
+    containers.into_iter().map(|binaries| binaries::Case { binaries, zeros: 0 }).collect()
+}

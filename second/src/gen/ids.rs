@@ -1,0 +1,448 @@
+//! Entry IDs and device names: meanings, their spellings, the limits, and broken ones.
+
+use super::random::Random;
+use crate::model::id::{canonical, sign_byte, Meaning, Sign};
+use std::collections::{BTreeMap, BTreeSet};
+
+const KINDS: &[&str] = &["host", "hip", "hipv4", "openmp"];
+const ARCHS: &[&str] = &["amdgcn", "amdgcn", "x86_64", "nvptx64", "spirv64", "a", "A", "_", "."];
+const VENDORS: &[&str] = &["amd", "amd", "unknown", "nvidia", "pc", "b", "B.b"];
+const SYSTEMS: &[&str] = &["amdhsa", "amdhsa", "linux", "cuda", "c", "gfx", "sm_"];
+const ENVIRONMENTS: &[&str] = &["", "", "", "gnu", "musl", "gfxenv", "gfx", "sm_", "sm_env", "gf", "sm", "GFX", "e"];
+const PROCESSORS: &[&str] =
+    &["gfx906", "gfx906", "gfx90a", "gfx1030", "sm_70", "sm_80", "gfx", "sm_", "generic", "g", "gf", "x.y_Z"];
+const FEATURES: &[&str] =
+    &["xnack", "xnack", "sramecc", "sramecc", "x", "xn", "xnac", "xnack_", "xnack0", "a", "b", "_", "0", "cumode"];
+const WRONG_KINDS: &[&str] =
+    &["", "Host", "HIP", "hi", "hos", "hosts", "hipv", "hipv3", "hipv5", "hipv44", "hip4", "openm", "openmp4", "cuda"];
+const FIELD_BYTES: &[u8] = b"abcdefghijklmnopqrstuvwxyzABCDEFGHIJKLMNOPQRSTUVWXYZ0123456789_.";
+const NAME_BYTES: &[u8] = b"abcdefghijklmnopqrstuvwxyz0123456789_";
+
+fn word(random: &mut Random, alphabet: &[u8]) -> Vec<u8> {
+    let longest = if random.one_in(12) { 40 } else { 8 };
+    let length = random.between(1, longest);
+    (0..length).map(|_| *random.choose(alphabet)).collect()
+}
+
+fn field(random: &mut Random, usual: &[&str]) -> Vec<u8> {
+    if random.one_in(8) {
+        return word(random, FIELD_BYTES);
+    }
+    random.choose(usual).as_bytes().to_vec()
+}
+
+fn feature_name(random: &mut Random) -> Vec<u8> {
+    if random.one_in(8) {
+        return word(random, NAME_BYTES);
+    }
+    random.choose(FEATURES).as_bytes().to_vec()
+}
+
+fn sign(random: &mut Random) -> Sign {
+    *random.choose(&[Sign::On, Sign::Off])
+}
+
+pub fn other_sign(sign: Sign) -> Sign {
+    match sign {
+        Sign::On => Sign::Off,
+        Sign::Off => Sign::On,
+    }
+}
+
+/// A meaning with no feature.
+pub fn target(random: &mut Random) -> Meaning {
+    let has_processor = !random.one_in(3);
+    Meaning {
+        kind: random.choose(KINDS).as_bytes().to_vec(),
+        arch: field(random, ARCHS),
+        vendor: field(random, VENDORS),
+        system: field(random, SYSTEMS),
+        environment: field(random, ENVIRONMENTS),
+        processor: has_processor.then(|| field(random, PROCESSORS)),
+        features: BTreeMap::new(),
+    }
+}
+
+/// So many different feature names.
+pub fn feature_names(random: &mut Random, count: usize) -> BTreeSet<Vec<u8>> {
+    let mut names = BTreeSet::new();
+    while names.len() < count {
+        names.insert(feature_name(random));
+    }
+    names
+}
+
+/// The meaning with these features, each with some sign.
+pub fn with_features(random: &mut Random, mut meaning: Meaning, names: &BTreeSet<Vec<u8>>) -> Meaning {
+    meaning.features = names.iter().map(|name| (name.clone(), sign(random))).collect();
+    meaning
+}
+
+/// A meaning with a processor and so many features.
+pub fn with_feature_count(random: &mut Random, count: usize) -> Meaning {
+    let mut meaning = target(random);
+    meaning.processor = Some(field(random, PROCESSORS));
+    let names = feature_names(random, count);
+    with_features(random, meaning, &names)
+}
+
+/// Mostly none to two features.
+pub fn some_feature_count(random: &mut Random) -> usize {
+    match random.below(8) {
+        0..=2 => 0,
+        3..=4 => 1,
+        5..=6 => 2,
+        _ => random.between(3, 8),
+    }
+}
+
+/// Any meaning that keeps the rules.
+pub fn some_meaning(random: &mut Random) -> Meaning {
+    loop {
+        let count = some_feature_count(random);
+        let meaning = if count == 0 { target(random) } else { with_feature_count(random, count) };
+        if canonical(&meaning).len() <= 256 {
+            return meaning;
+        }
+    }
+}
+
+/// The meaning with features more than it states, up to 8 in all.
+pub fn with_more_features(random: &mut Random, meaning: &Meaning) -> Meaning {
+    let mut more = meaning.clone();
+    if more.processor.is_some() {
+        let total = random.between(more.features.len(), 8);
+        while more.features.len() < total {
+            let name = feature_name(random);
+            let sign = sign(random);
+            more.features.entry(name).or_insert(sign);
+        }
+    }
+    if canonical(&more).len() <= 256 {
+        more
+    } else {
+        meaning.clone()
+    }
+}
+
+/// Meanings that may stand in one bundle, in any order.
+pub fn composed(random: &mut Random, count: usize) -> Vec<Meaning> {
+    let mut meanings = Vec::new();
+    let mut targets = BTreeSet::new();
+    while meanings.len() < count {
+        let target = target(random);
+        if targets.insert(target.clone()) {
+            let most = count - meanings.len();
+            meanings.extend(group(random, target, most));
+        }
+    }
+    random.shuffle(&mut meanings);
+    meanings
+}
+
+/// Different meanings of one target that all state the same feature names, `most` at most.
+fn group(random: &mut Random, target: Meaning, most: usize) -> BTreeSet<Meaning> {
+    let mut group = BTreeSet::new();
+    let names_count = if target.processor.is_some() { some_feature_count(random) } else { 0 };
+    let names = feature_names(random, names_count);
+    let tries = random.between(1, 4).min(most);
+    for _ in 0..tries {
+        let meaning = with_features(random, target.clone(), &names);
+        if canonical(&meaning).len() <= 256 {
+            group.insert(meaning);
+        }
+    }
+    group
+}
+
+fn reads_as_processor(field: &[u8]) -> bool {
+    field.starts_with(b"gfx") || field.starts_with(b"sm_")
+}
+
+/// The numbers of fields with which a meaning can be spelled.
+fn field_counts(meaning: &Meaning) -> Vec<usize> {
+    let mut counts = vec![6];
+    match &meaning.processor {
+        Some(name) if meaning.environment.is_empty() && reads_as_processor(name) => counts.push(5),
+        None if !reads_as_processor(&meaning.environment) => counts.push(5),
+        _ => {}
+    }
+    if meaning.processor.is_none() && meaning.environment.is_empty() {
+        counts.push(4);
+    }
+    counts
+}
+
+/// The fields of a meaning, so many of them.
+fn fields_of(meaning: &Meaning, count: usize) -> Vec<Vec<u8>> {
+    let mut fields = vec![meaning.kind.clone(), meaning.arch.clone(), meaning.vendor.clone(), meaning.system.clone()];
+    match (count, &meaning.processor) {
+        (4, _) => {}
+        (5, Some(name)) => fields.push(name.clone()),
+        (5, None) => fields.push(meaning.environment.clone()),
+        (_, name) => fields.extend([meaning.environment.clone(), name.clone().unwrap_or_default()]),
+    }
+    fields
+}
+
+/// The features as they are written, in any order.
+fn feature_texts(random: &mut Random, meaning: &Meaning) -> Vec<Vec<u8>> {
+    let mut texts: Vec<Vec<u8>> =
+        meaning.features.iter().map(|(name, sign)| [&name[..], &[sign_byte(*sign)]].concat()).collect();
+    random.shuffle(&mut texts);
+    texts
+}
+
+/// An ID of these fields and feature pieces.
+fn text(fields: &[Vec<u8>], pieces: &[Vec<u8>]) -> Vec<u8> {
+    let mut text = fields.join(&b'-');
+    for piece in pieces {
+        text.push(b':');
+        text.extend(piece);
+    }
+    text
+}
+
+fn spelled_with(random: &mut Random, meaning: &Meaning, count: usize) -> Vec<u8> {
+    let pieces = feature_texts(random, meaning);
+    text(&fields_of(meaning, count), &pieces)
+}
+
+/// Any spelling of a meaning that is at most 256 bytes long.
+pub fn spelled(random: &mut Random, meaning: &Meaning) -> Vec<u8> {
+    let counts = field_counts(meaning);
+    let count = *random.choose(&counts);
+    spelled_with(random, meaning, count)
+}
+
+/// An ID with some property, by the way it is made.
+#[derive(Clone, Copy)]
+pub struct IdMaker {
+    pub name: &'static str,
+    pub make: fn(&mut Random) -> Vec<u8>,
+}
+
+/// IDs that keep the rules, at their limits.
+pub const EDGES: &[IdMaker] = &[
+    IdMaker { name: "ID of 256 bytes", make: |random| of_length(random, 6, 256) },
+    IdMaker { name: "four fields, canonical form of 256 bytes", make: |random| of_length(random, 4, 254) },
+    IdMaker { name: "five fields, canonical form of 256 bytes", make: |random| of_length(random, 5, 255) },
+    IdMaker { name: "8 features", make: |random| of_features(random, 8) },
+    IdMaker { name: "shortest ID", make: |_| b"hip-a-b-c".to_vec() },
+    IdMaker { name: "environment that begins like a processor", make: like_a_processor },
+    IdMaker { name: "processor that does not begin like one", make: |_| b"hip-a-b-c--generic:x+".to_vec() },
+    IdMaker { name: "names of which one begins with the other", make: |_| b"hip-a-b-c-gfx:ab-:a+:abc+".to_vec() },
+];
+
+/// IDs of at most 256 bytes that break the rules.
+pub const BROKEN: &[IdMaker] = &[
+    IdMaker { name: "ID of 1 byte", make: |random| random.bytes(1) },
+    IdMaker { name: "three fields", make: |random| broken_fields(random, |fields, _| fields.truncate(3)) },
+    IdMaker { name: "seven fields", make: seven_fields },
+    IdMaker { name: "wrong kind", make: |random| broken_fields(random, wrong_kind) },
+    IdMaker { name: "empty arch", make: |random| broken_fields(random, |fields, _| fields[1].clear()) },
+    IdMaker { name: "empty vendor", make: |random| broken_fields(random, |fields, _| fields[2].clear()) },
+    IdMaker { name: "empty system", make: |random| broken_fields(random, |fields, _| fields[3].clear()) },
+    IdMaker { name: "byte that no field has", make: |random| broken_fields(random, wrong_field_byte) },
+    IdMaker { name: "no sign", make: |random| broken_piece(random, |_| b"xnack".to_vec()) },
+    IdMaker { name: "sign before the name", make: |random| broken_piece(random, |_| b"+xnack".to_vec()) },
+    IdMaker { name: "empty name", make: |random| broken_piece(random, |random| vec![*random.choose(b"+-")]) },
+    IdMaker { name: "empty feature", make: |random| broken_piece(random, |_| Vec::new()) },
+    IdMaker { name: "two signs", make: |random| broken_piece(random, two_signs) },
+    IdMaker { name: "byte that no name has", make: |random| broken_piece(random, wrong_name) },
+    IdMaker { name: "name twice, same sign", make: |random| name_twice(random, |sign| sign) },
+    IdMaker { name: "name twice, other sign", make: |random| name_twice(random, other_sign) },
+    IdMaker { name: "four fields and a feature", make: |random| no_processor(random, 4) },
+    IdMaker { name: "five fields, no processor and a feature", make: |random| no_processor(random, 5) },
+    IdMaker { name: "six fields, no processor and a feature", make: |random| no_processor(random, 6) },
+    IdMaker { name: "9 features", make: |random| of_features(random, 9) },
+    IdMaker { name: "four fields, canonical form of 257 bytes", make: |random| of_length(random, 4, 255) },
+    IdMaker { name: "four fields, canonical form of 258 bytes", make: |random| of_length(random, 4, 256) },
+    IdMaker { name: "five fields, canonical form of 257 bytes", make: |random| of_length(random, 5, 256) },
+];
+
+/// A spelling of so many fields and so many bytes: one field is as long as it has to be.
+pub fn of_length(random: &mut Random, fields: usize, length: usize) -> Vec<u8> {
+    loop {
+        let mut meaning = some_meaning(random);
+        if !field_counts(&meaning).contains(&fields) {
+            continue;
+        }
+        let now = spelled_with(random, &meaning, fields).len();
+        if now <= length {
+            let more = (now..length).map(|_| *random.choose(FIELD_BYTES));
+            random_field(&mut meaning, length).extend(more.collect::<Vec<u8>>());
+            return spelled_with(random, &meaning, fields);
+        }
+    }
+}
+
+/// Arch, vendor or system, by a number.
+fn random_field(meaning: &mut Meaning, number: usize) -> &mut Vec<u8> {
+    match number % 3 {
+        0 => &mut meaning.arch,
+        1 => &mut meaning.vendor,
+        _ => &mut meaning.system,
+    }
+}
+
+fn of_features(random: &mut Random, count: usize) -> Vec<u8> {
+    loop {
+        let meaning = with_feature_count(random, count);
+        let id = spelled(random, &meaning);
+        if canonical(&meaning).len() <= 256 {
+            return id;
+        }
+    }
+}
+
+fn like_a_processor(random: &mut Random) -> Vec<u8> {
+    let mut meaning = target(random);
+    meaning.environment = random.choose(&["gfx", "gfxenv", "sm_", "sm_70"]).as_bytes().to_vec();
+    meaning.processor = None;
+    spelled(random, &meaning)
+}
+
+/// A meaning short enough that no damage makes its ID longer than 256 bytes.
+fn short_meaning(random: &mut Random) -> Meaning {
+    loop {
+        let meaning = some_meaning(random);
+        if canonical(&meaning).len() <= 180 {
+            return meaning;
+        }
+    }
+}
+
+/// The ID of a meaning after damage to its fields.
+fn broken_fields(random: &mut Random, damage: fn(&mut Vec<Vec<u8>>, &mut Random)) -> Vec<u8> {
+    let meaning = short_meaning(random);
+    let counts = field_counts(&meaning);
+    let mut fields = fields_of(&meaning, *random.choose(&counts));
+    let pieces = feature_texts(random, &meaning);
+    damage(&mut fields, random);
+    text(&fields, &pieces)
+}
+
+fn seven_fields(random: &mut Random) -> Vec<u8> {
+    let meaning = short_meaning(random);
+    let mut fields = fields_of(&meaning, 6);
+    fields.push(field(random, ENVIRONMENTS));
+    let pieces = feature_texts(random, &meaning);
+    text(&fields, &pieces)
+}
+
+fn wrong_kind(fields: &mut Vec<Vec<u8>>, random: &mut Random) {
+    fields[0] = random.choose(WRONG_KINDS).as_bytes().to_vec();
+}
+
+/// A byte that is not in an alphabet and cuts nothing: its neighbours in ASCII, zero, and bytes above 127 are among them.
+fn byte_outside(random: &mut Random, alphabet: &[u8]) -> u8 {
+    loop {
+        let byte = if random.one_in(2) { *random.choose(b"/@[`{+*,^\0\n \x7f\x80\xff") } else { random.byte() };
+        if !alphabet.contains(&byte) && byte != b'-' && byte != b':' {
+            return byte;
+        }
+    }
+}
+
+fn put_byte(text: &mut Vec<u8>, byte: u8, random: &mut Random) {
+    let at = random.between(0, text.len());
+    text.insert(at, byte);
+}
+
+fn wrong_field_byte(fields: &mut Vec<Vec<u8>>, random: &mut Random) {
+    let byte = byte_outside(random, FIELD_BYTES);
+    let which = random.between(1, fields.len() - 1);
+    put_byte(&mut fields[which], byte, random);
+}
+
+/// The ID of a meaning with a processor, with one piece put among its features.
+fn broken_piece(random: &mut Random, piece: fn(&mut Random) -> Vec<u8>) -> Vec<u8> {
+    let mut meaning = short_meaning(random);
+    meaning.processor = Some(field(random, PROCESSORS));
+    let mut pieces = feature_texts(random, &meaning);
+    pieces.truncate(7);
+    let at = random.between(0, pieces.len());
+    let piece = piece(random);
+    pieces.insert(at, piece);
+    text(&fields_of(&meaning, 6), &pieces)
+}
+
+fn two_signs(random: &mut Random) -> Vec<u8> {
+    let mut piece = feature_name(random);
+    let middle = *random.choose(b"+-");
+    put_byte(&mut piece, middle, random);
+    piece.push(*random.choose(b"+-"));
+    piece
+}
+
+fn wrong_name(random: &mut Random) -> Vec<u8> {
+    let mut name = feature_name(random);
+    let byte = byte_outside(random, NAME_BYTES);
+    put_byte(&mut name, byte, random);
+    name.push(*random.choose(b"+-"));
+    name
+}
+
+fn name_twice(random: &mut Random, second: fn(Sign) -> Sign) -> Vec<u8> {
+    loop {
+        let count = random.between(1, 7);
+        let meaning = with_feature_count(random, count);
+        let mut pieces = feature_texts(random, &meaning);
+        let (name, sign) = meaning.features.iter().nth(random.below(count)).unwrap();
+        let at = random.between(0, pieces.len());
+        pieces.insert(at, [&name[..], &[sign_byte(second(*sign))]].concat());
+        let id = text(&fields_of(&meaning, 6), &pieces);
+        if id.len() <= 256 {
+            return id;
+        }
+    }
+}
+
+fn no_processor(random: &mut Random, fields: usize) -> Vec<u8> {
+    let mut meaning = short_meaning(random);
+    meaning.processor = None;
+    if fields == 4 {
+        meaning.environment.clear();
+    }
+    if fields == 5 {
+        meaning.environment = random.choose(&["", "gnu", "gf", "sm", "Gfx"]).as_bytes().to_vec();
+    }
+    meaning.features.clear();
+    meaning.features.insert(feature_name(random), sign(random));
+    spelled_with(random, &meaning, fields)
+}
+
+#[cfg(test)]
+mod tests {
+    use super::*;
+    use crate::model::id::meaning;
+
+    #[test]
+    fn spellings_mean_what_they_spell() {
+        let mut random = Random::of_case(1, 1);
+        for _ in 0..20_000 {
+            let expected = some_meaning(&mut random);
+            let id = spelled(&mut random, &expected);
+            assert_eq!(meaning(&id), Some(expected), "{}", String::from_utf8_lossy(&id));
+        }
+    }
+
+    #[test]
+    fn edges_keep_the_rules_and_broken_ids_do_not() {
+        let mut random = Random::of_case(1, 2);
+        for maker in EDGES {
+            for _ in 0..500 {
+                let id = (maker.make)(&mut random);
+                assert!(meaning(&id).is_some(), "{}: {}", maker.name, String::from_utf8_lossy(&id));
+            }
+        }
+        for maker in BROKEN {
+            for _ in 0..500 {
+                let id = (maker.make)(&mut random);
+                assert!(!id.is_empty() && id.len() <= 256, "{}: {}", maker.name, id.len());
+                assert!(meaning(&id).is_none(), "{}: {}", maker.name, String::from_utf8_lossy(&id));
+            }
+        }
+    }
+}

@@ -1,0 +1,183 @@
+//! Compares the library with the model: `compare [--seed N] [--cases N] [--first N] [--dump FOLDER] [--aims]`.
+//!
+//! Ends with 1 where an answer differs, where a byte outside a lent slice is touched, or where a number never came. The case is then left
+//! in the folder (`target/second-case` if none is named), and `--seed S --first N --cases 1` runs it again.
+
+use second::calls::LINKED;
+use second::families::bundles::Bundles;
+use second::families::{Difference, Family, Report};
+use second::gen::random::Random;
+use std::path::{Path, PathBuf};
+use std::process::exit;
+use std::sync::atomic::{AtomicPtr, AtomicU64, Ordering::Relaxed};
+use std::sync::OnceLock;
+use std::time::Instant;
+
+const NAMES: [&str; 20] = [
+    "OK", "LENGTH", "MAGIC", "COUNT", "TABLE", "ID", "RANGE", "TWICE", "MIXED", "QUERY", "NONE", "BIG", "ROOM", "HEAD",
+    "SPAN", "KIND", "STRINGS", "IMAGE", "MANY", "END",
+];
+
+struct Options {
+    seed: u64,
+    first: u64,
+    cases: u64,
+    dump: PathBuf,
+    aims: bool,
+}
+
+static OPTIONS: OnceLock<Options> = OnceLock::new();
+
+fn main() {
+    let options = OPTIONS.get_or_init(read_options);
+    catch_faults();
+    println!("seed {}", options.seed);
+    let families: Vec<Box<dyn Family>> = vec![Box::new(Bundles::new(LINKED))];
+    for family in families {
+        run(family, options);
+    }
+}
+
+fn read_options() -> Options {
+    let dump = PathBuf::from("target/second-case");
+    let mut options = Options { seed: 1, first: 0, cases: 200_000, dump, aims: false };
+    let mut words = std::env::args().skip(1);
+    while let Some(word) = words.next() {
+        match word.as_str() {
+            "--seed" => options.seed = number(words.next()),
+            "--first" => options.first = number(words.next()),
+            "--cases" => options.cases = number(words.next()),
+            "--dump" => options.dump = PathBuf::from(words.next().unwrap_or_else(|| usage())),
+            "--aims" => options.aims = true,
+            _ => usage(),
+        }
+    }
+    options
+}
+
+fn number(word: Option<String>) -> u64 {
+    word.and_then(|word| word.parse().ok()).unwrap_or_else(|| usage())
+}
+
+fn usage() -> ! {
+    eprintln!("compare [--seed N] [--cases N] [--first N] [--dump FOLDER] [--aims]");
+    exit(2)
+}
+
+/// Runs a family's cases; does not come back where they fail.
+fn run(mut family: Box<dyn Family>, options: &Options) {
+    let start = Instant::now();
+    CURRENT.store(&mut family, Relaxed);
+    CASE.store(u64::MAX, Relaxed);
+    let fixed = family.run_fixed().unwrap_or_else(|difference| differs(&*family, &difference));
+    for case in options.first..options.first + options.cases {
+        CASE.store(case, Relaxed);
+        let result = family.run(&mut Random::of_case(options.seed, case));
+        result.unwrap_or_else(|difference| differs(&*family, &difference));
+    }
+    println!(
+        "{}: {} generated cases, {fixed} examples and real files, {:.1?}",
+        family.name(),
+        options.cases,
+        start.elapsed()
+    );
+    print_numbers(family.report());
+    if options.aims {
+        print_aims(family.report());
+    }
+    let whole = options.cases >= 10_000;
+    if whole {
+        require_all(family.report());
+    }
+}
+
+fn print_numbers(report: &Report) {
+    let heads: String = report.tallies.iter().map(|tally| format!("{:>15}", tally.call)).collect();
+    println!("  number    {heads}");
+    for (number, name) in NAMES.iter().enumerate() {
+        let must_come = |number: u64| report.tallies.iter().any(|tally| tally.must_come.contains(&number));
+        if must_come(number as u64) {
+            let seen: String = report.tallies.iter().map(|tally| format!("{:>15}", tally.seen[number])).collect();
+            println!("  {number:>2} {name:<7}{seen}");
+        }
+    }
+}
+
+fn print_aims(report: &Report) {
+    for aim in &report.aims {
+        println!("  {:<10}{:>3} {:>6} of {:>6}  {}", aim.call, aim.number, aim.met, aim.tried, aim.name);
+    }
+}
+
+/// A number that never came, or a line that no case met, fails the run.
+fn require_all(report: &Report) {
+    let missing = report.missing();
+    for line in &missing {
+        println!("{line}");
+    }
+    if !missing.is_empty() {
+        exit(1);
+    }
+    if let Some(least) = report.entry_counts.iter().min() {
+        println!("  bundles of 0 to 64 entries were accepted, each count {least} times or more");
+    }
+    let least = report.aims.iter().map(|aim| aim.met).min().unwrap_or(0);
+    println!("  {} lines were aimed at, each met {least} times or more", report.aims.len());
+}
+
+fn differs(family: &dyn Family, difference: &Difference) -> ! {
+    println!("{}: the library differs from the model in {}", family.name(), difference.call);
+    println!("  model:   {}\n  library: {}", difference.model, difference.library);
+    fail(family)
+}
+
+/// Leaves the case in files and says how to run it again.
+fn fail(family: &dyn Family) -> ! {
+    let options = OPTIONS.get().expect("options are read first");
+    match CASE.load(Relaxed) {
+        u64::MAX => println!("  an example or a real file: these always run"),
+        case => println!("  run again: --seed {} --first {case} --cases 1", options.seed),
+    }
+    for (name, bytes) in family.files() {
+        let file = dump(&options.dump, &format!("{}-{name}", family.name().replace(' ', "-")), &bytes);
+        println!("  {}", file.display());
+    }
+    exit(1)
+}
+
+fn dump(folder: &Path, name: &str, bytes: &[u8]) -> PathBuf {
+    let file = folder.join(name);
+    let written = std::fs::create_dir_all(folder).and_then(|_| std::fs::write(&file, bytes));
+    if let Err(error) = written {
+        println!("  {}: {error}", file.display());
+    }
+    file
+}
+
+/// The case that runs, for the handler below.
+static CASE: AtomicU64 = AtomicU64::new(u64::MAX);
+static CURRENT: AtomicPtr<Box<dyn Family>> = AtomicPtr::new(std::ptr::null_mut());
+
+extern "C" {
+    fn signal(number: i32, handler: extern "C" fn(i32)) -> usize;
+}
+
+const SIGSEGV: i32 = 11;
+
+fn catch_faults() {
+    // SAFETY: the handler ends the process.
+    unsafe {
+        signal(SIGSEGV, touched_outside);
+    }
+}
+
+/// The library touched a byte outside a lent slice. It runs in the middle of a call, which holds nothing that the report needs.
+extern "C" fn touched_outside(_: i32) {
+    println!("a byte outside a lent slice was touched");
+    // SAFETY: the family of the case that runs; nothing else runs any more.
+    let family = unsafe { CURRENT.load(Relaxed).as_ref() };
+    if let Some(family) = family {
+        fail(&**family);
+    }
+    exit(1)
+}

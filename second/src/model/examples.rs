@@ -1,0 +1,331 @@
+//! The examples of document 01's section "Bench pieces on each side of a line", all of them, and the slips it names.
+
+use super::binaries::{read_all, Binary, Pair};
+use super::binary_writer::{write_binary, Content};
+use super::bundle::{check, normalise, pick, Checked, Picked, MAGIC_BYTES};
+use super::bundle_writer::{write_bundle, Record};
+use super::id::{canonical, compatible, meaning, Meaning};
+use super::*;
+use crate::gen::examples::*;
+
+fn known(id: &str) -> Meaning {
+    meaning(id.as_bytes()).expect(id)
+}
+
+fn canonical_text(id: &str) -> String {
+    String::from_utf8(canonical(&known(id))).unwrap()
+}
+
+fn refused(id: &str) -> bool {
+    meaning(id.as_bytes()).is_none()
+}
+
+fn refusal(number: u64, place: u64) -> Checked {
+    Checked { number, place, count: 0 }
+}
+
+fn accepted(count: u64) -> Checked {
+    Checked { number: OK, place: 0, count }
+}
+
+/// The normal form, with room to spare; the bytes beyond it must stay.
+fn normal(bundle: &[u8]) -> Vec<u8> {
+    let mut out = vec![0xA5; bundle.len() + 1000];
+    let written = normalise(bundle, &mut out);
+    assert_eq!((written.number, written.place), (OK, 0));
+    let rest = out.split_off(written.length as usize);
+    assert!(rest.iter().all(|byte| *byte == 0xA5));
+    out
+}
+
+#[test]
+fn empty_input() {
+    assert_eq!(check(b""), refusal(MAGIC, 0));
+    assert_eq!(read_all(b""), [Binary { number: END, place: 0, ..Binary::default() }]);
+}
+
+#[test]
+fn no_entries() {
+    let bytes = [&MAGIC_BYTES[..], &[0; 8]].concat();
+    assert_eq!(check(&bytes), accepted(0));
+    assert_eq!(normal(&bytes), bytes);
+    assert_eq!(bytes.len(), 32);
+}
+
+#[test]
+fn host_without_processor() {
+    let text = canonical_text(HOST);
+    assert_eq!(text, "host-x86_64-unknown-linux-gnu-");
+    assert_eq!(text.len(), 30);
+    let expected = [
+        &MAGIC_BYTES[..],
+        &1u64.to_le_bytes(),
+        &86u64.to_le_bytes(),
+        &5u64.to_le_bytes(),
+        &30u64.to_le_bytes(),
+        b"host-x86_64-unknown-linux-gnu-",
+        b"12345",
+    ]
+    .concat();
+    assert_eq!(expected.len(), 91);
+    assert_eq!(normal(&bundle(&[(HOST, b"12345")])), expected);
+    assert_eq!(normal(&expected), expected);
+}
+
+#[test]
+fn features_in_order() {
+    let text = canonical_text(SHUFFLED);
+    assert_eq!(text, "hip-amdgcn-amd-amdhsa--gfx906:sramecc-:xnack+");
+    assert_eq!(text, IN_ORDER);
+    assert_eq!(text.len(), 45);
+    assert_eq!(canonical_text("hip-a-b-c-gfx9:ab+:a-"), "hip-a-b-c--gfx9:a-:ab+");
+}
+
+#[test]
+fn device_states_more() {
+    let entry = known(PLAIN);
+    assert!(compatible(&entry, &known(BOTH_STATED)));
+}
+
+#[test]
+fn device_states_less() {
+    let entry = known(XNACK_OFF);
+    assert!(!compatible(&entry, &known(PLAIN)));
+    assert!(!compatible(&entry, &known(XNACK_ON)));
+}
+
+#[test]
+fn mixed_at_the_second() {
+    let bytes = bundle(&[(PLAIN, b""), (XNACK_ON, b"")]);
+    assert_eq!(check(&bytes), refusal(MIXED, 1));
+}
+
+#[test]
+fn twice_in_two_spellings() {
+    let bytes = bundle(&[(SHUFFLED, b""), (IN_ORDER, b"")]);
+    assert_eq!(check(&bytes), refusal(TWICE, 1));
+}
+
+#[test]
+fn offset_at_the_length() {
+    assert_eq!(check(&at_the_length(0)), accepted(1));
+    assert_eq!(check(&at_the_length(1)), refusal(RANGE, 0));
+}
+
+#[test]
+fn binary_of_72_bytes() {
+    let mut out = [0xA5; 80];
+    let written = write_binary(&Content::default(), b"", b"", &mut out);
+    assert_eq!(written, Written { number: OK, place: 0, length: 72 });
+    assert_eq!(out[72..], [0xA5; 8]);
+    assert_eq!(integer(&out, 40, 8), 72);
+    let answers = read_all(&out[..72]);
+    let binary = Binary { size: 72, image_place: 72, ..Binary::default() };
+    assert_eq!(answers, [binary, Binary { number: END, place: 72, ..Binary::default() }]);
+}
+
+#[test]
+fn binary_of_112_bytes() {
+    let mut out = [0xA5; 112];
+    let written = write_binary(&sm_70(), SM_70_STRINGS, SM_70_IMAGE, &mut out);
+    assert_eq!(written, Written { number: OK, place: 0, length: 112 });
+    assert_eq!(&out[88..112], b"arch\0sm_70\0\0\0\0\0\0img\0\0\0\0\0");
+    let pairs = vec![Pair { key_place: 88, key_length: 4, text_place: 93, text_length: 5 }];
+    let expected = Binary {
+        size: 112,
+        image_kind: 3,
+        offload_kind: 2,
+        flags: 7,
+        image_place: 104,
+        image_length: 3,
+        pairs,
+        ..Binary::default()
+    };
+    assert_eq!(read_all(&out)[0], expected);
+}
+
+#[test]
+fn count_of_64_and_65() {
+    assert_eq!(check(&many(64)), accepted(64));
+    assert_eq!(check(&many(65)), refusal(COUNT, 0));
+}
+
+#[test]
+fn id_length_of_all_ones() {
+    let bytes = bundle(&[("hip-amdgcn-amd-amdhsa", b"123")]);
+    assert_eq!(check(&with_field(bytes, 48, u64::MAX)), refusal(TABLE, 0));
+}
+
+#[test]
+fn feature_without_processor() {
+    assert!(refused(NO_PROCESSOR));
+    assert_eq!(check(&bundle(&[(NO_PROCESSOR, b"")])), refusal(ID, 0));
+}
+
+#[test]
+fn sum_that_wraps() {
+    let bytes = bundle(&[("hip-amdgcn-amd-amdhsa", b"123")]);
+    assert_eq!(check(&with_field(bytes.clone(), 40, u64::MAX)), refusal(RANGE, 0));
+    assert_eq!(check(&with_field(bytes, 32, u64::MAX)), refusal(RANGE, 0));
+}
+
+#[test]
+fn environment_that_begins_like_a_processor() {
+    let text = canonical_text("hip-a-b-c-gfxenv-");
+    assert_eq!(text, "hip-a-b-c-gfxenv-");
+    assert_eq!(known("hip-a-b-c-gfxenv-").processor, None);
+    assert_eq!(known("hip-a-b-c-gfxenv").processor, Some(b"gfxenv".to_vec()));
+    assert_eq!(canonical_text("hip-a-b-c"), "hip-a-b-c--");
+    assert_eq!(canonical_text("hip-a-b-c-"), "hip-a-b-c--");
+}
+
+#[test]
+fn spelling_rules() {
+    for id in [
+        "",
+        "hip",
+        "hip-a-b",
+        "hip-a-b-c-d-e-f",
+        "HIP-a-b-c",
+        "hipv5-a-b-c",
+        "-a-b-c",
+        "hip--b-c",
+        "hip-a--c",
+        "hip-a-b-",
+        "hip-a+-b-c",
+        "hip-a-b-c d",
+        "hip-a-b-c-gfx9:",
+        "hip-a-b-c-gfx9:+",
+        "hip-a-b-c-gfx9:x",
+        "hip-a-b-c-gfx9:X+",
+        "hip-a-b-c-gfx9:x.y+",
+        "hip-a-b-c-gfx9:x+:x-",
+        "hip-a-b-c-gfx9:x+:x+",
+        "hip-a-b-c-gfx9::x+",
+        "hip-a-b-c:x+",
+        "hip-a-b-c-d:x+",
+        "hip-a-b-c-gfx9:a+:b+:c+:d+:e+:f+:g+:h+:i+",
+    ] {
+        assert!(refused(id), "{id}");
+    }
+    for id in [
+        "hip-a-b-c",
+        "host-A_.9-b-c-",
+        "openmp-a-b-c-sm_",
+        "hipv4-a-b-c--x:_+:0-",
+        "hip-a-b-c-gfx9:a+:b+:c+:d+:e+:f+:g+:h+",
+    ] {
+        assert!(!refused(id), "{id}");
+    }
+}
+
+#[test]
+fn id_limits() {
+    let text = |length: usize| format!("hip-a-b-{}", "c".repeat(length - 8));
+    assert_eq!(canonical_text(&text(254)).len(), 256);
+    assert!(refused(&text(255)));
+    let six_fields = |length: usize| format!("hip-a-b-{}--", "c".repeat(length - 10));
+    assert!(!refused(&six_fields(256)));
+    assert!(refused(&six_fields(257)));
+}
+
+#[test]
+fn picks() {
+    let bytes = bundle(&[(XNACK_ON, b"on"), (XNACK_OFF, b"off")]);
+    let position = bytes.len() as u64 - 3;
+    let found = Picked { number: OK, place: 0, index: 1, position, size: 3 };
+    assert_eq!(pick(&bytes, b"hip-amdgcn-amd-amdhsa--gfx906:xnack-:sramecc+"), found);
+    let none = Picked { number: NONE, ..Picked::default() };
+    assert_eq!(pick(&bytes, b"hip-amdgcn-amd-amdhsa--gfx906"), none);
+    assert_eq!(pick(&bytes, b"hipv4-amdgcn-amd-amdhsa--gfx906:xnack-"), none);
+    let query = Picked { number: QUERY, ..Picked::default() };
+    assert_eq!(pick(&bytes, b""), query);
+    assert_eq!(pick(&bytes, b"hip-amdgcn-amd-amdhsa--gfx906:xnack"), query);
+}
+
+#[test]
+fn normal_form_sorts_and_packs() {
+    let bytes = bundle(&[("openmp-a-b-c", b"three"), ("hip-a-b-c-gfx9:b+:a-", b""), ("hip-a-b-c", b"one")]);
+    let expected = bundle(&[("hip-a-b-c--", b"one"), ("hip-a-b-c--gfx9:a-:b+", b""), ("openmp-a-b-c--", b"three")]);
+    assert_eq!(normal(&bytes), expected);
+}
+
+#[test]
+fn room_for_the_normal_form() {
+    let bytes = bundle(&[("hip-a-b-c--", b"one")]);
+    let mut short = vec![0xA5; bytes.len() - 1];
+    assert_eq!(normalise(&bytes, &mut short), Written { number: ROOM, place: 0, length: 0 });
+    assert!(short.iter().all(|byte| *byte == 0xA5));
+    let mut exact = vec![0xA5; bytes.len()];
+    let written = normalise(&bytes, &mut exact);
+    assert_eq!(written, Written { number: OK, place: 0, length: bytes.len() as u64 });
+    assert_eq!(exact, bytes);
+}
+
+#[test]
+fn bundle_writer_keeps_the_order() {
+    let records = [
+        Record { id_start: 9, id_length: 12, image_start: 1, image_length: 2 },
+        Record { id_start: 0, id_length: 9, image_start: 0, image_length: 3 },
+    ];
+    let mut out = vec![0xA5; 200];
+    let written = write_bundle(&records, b"hip-a-b-copenmp-a-b-c", b"xyz", &mut out);
+    let expected = bundle(&[("openmp-a-b-c--", b"yz"), ("hip-a-b-c--", b"xyz")]);
+    assert_eq!(written, Written { number: OK, place: 0, length: expected.len() as u64 });
+    assert_eq!(out[..expected.len()], expected);
+    assert!(out[expected.len()..].iter().all(|byte| *byte == 0xA5));
+}
+
+#[test]
+fn bundle_writer_refuses() {
+    let good = Record { id_start: 0, id_length: 9, image_start: 0, image_length: 3 };
+    let written = |records: &[Record]| {
+        let mut out = vec![0xA5; 200];
+        let written = write_bundle(records, b"hip-a-b-c", b"xyz", &mut out);
+        assert!(written.number == OK || out.iter().all(|byte| *byte == 0xA5));
+        (written.number, written.place)
+    };
+    assert_eq!(written(&[]), (OK, 0));
+    assert_eq!(written(&[good; 65]), (COUNT, 0));
+    assert_eq!(written(&[good, Record { id_start: 1, ..good }]), (TABLE, 1));
+    assert_eq!(written(&[good, Record { id_start: u64::MAX, ..good }]), (TABLE, 1));
+    assert_eq!(written(&[good, Record { id_length: 0, ..good }]), (TABLE, 1));
+    assert_eq!(written(&[good, Record { id_length: 7, ..good }]), (ID, 1));
+    assert_eq!(written(&[good, Record { image_start: 1, ..good }]), (RANGE, 1));
+    assert_eq!(written(&[Record { image_start: 3, image_length: 0, ..good }]), (OK, 0));
+    assert_eq!(written(&[Record { image_start: 4, image_length: 0, ..good }]), (RANGE, 0));
+    assert_eq!(written(&[good, good]), (TWICE, 1));
+}
+
+/// A container of so many binaries of 72 bytes.
+fn repeated(count: usize) -> Vec<u8> {
+    let mut out = [0; 72];
+    write_binary(&Content::default(), b"", b"", &mut out);
+    out.repeat(count)
+}
+
+#[test]
+fn binaries_64_and_65() {
+    let last = |bytes: &[u8]| {
+        let answers = read_all(bytes);
+        let last = answers.last().unwrap();
+        (answers.len(), last.number, last.place)
+    };
+    assert_eq!(last(&repeated(64)), (65, END, 64 * 72));
+    assert_eq!(last(&repeated(65)), (65, MANY, 64 * 72));
+    assert_eq!(last(&repeated(3)[..215]), (3, SPAN, 144));
+    assert_eq!(last(&repeated(3)[..175]), (3, HEAD, 144));
+}
+
+#[test]
+fn a_reader_stays_where_it_is() {
+    for bytes in [repeated(2), repeated(65), repeated(2)[..100].to_vec()] {
+        let mut cursor = binaries::Cursor::default();
+        while binaries::next(&bytes, cursor).0.number == OK {
+            cursor = binaries::next(&bytes, cursor).1;
+        }
+        let (first, after) = binaries::next(&bytes, cursor);
+        assert_eq!(after, cursor);
+        assert_eq!(binaries::next(&bytes, after), (first, after));
+    }
+}

@@ -1,0 +1,161 @@
+//! "Entry IDs and what they mean".
+
+use super::{FEATURE_LIMIT, ID_LIMIT};
+use std::collections::{BTreeMap, BTreeSet};
+
+/// "then `+` (on) or `-` (off)".
+#[derive(Clone, Copy, Debug, PartialEq, Eq, PartialOrd, Ord)]
+pub enum Sign {
+    On,
+    Off,
+}
+
+/// "The meaning is kind, the four triple parts, processor, and the set of stated features with their signs."
+#[derive(Clone, Debug, PartialEq, Eq, PartialOrd, Ord)]
+pub struct Meaning {
+    pub kind: Vec<u8>,
+    pub arch: Vec<u8>,
+    pub vendor: Vec<u8>,
+    pub system: Vec<u8>,
+    pub environment: Vec<u8>,
+    pub processor: Option<Vec<u8>>,
+    pub features: BTreeMap<Vec<u8>, Sign>,
+}
+
+/// The meaning of an ID, or nothing where it breaks the rules.
+pub fn meaning(id: &[u8]) -> Option<Meaning> {
+    if id.is_empty() || id.len() as u64 > ID_LIMIT {
+        return None;
+    }
+    let (before, after) = cut_at_first_colon(id);
+    let fields: Vec<&[u8]> = before.split(|byte| *byte == b'-').collect();
+    let (environment, processor) = environment_and_processor(&fields)?;
+    let meaning = Meaning {
+        kind: fields[0].to_vec(),
+        arch: fields[1].to_vec(),
+        vendor: fields[2].to_vec(),
+        system: fields[3].to_vec(),
+        environment: environment.to_vec(),
+        processor: processor.map(|name| name.to_vec()),
+        features: features(after)?,
+    };
+    let keeps_rules = is_kind(&meaning.kind)
+        && !meaning.arch.is_empty()
+        && !meaning.vendor.is_empty()
+        && !meaning.system.is_empty()
+        && fields[1..].iter().all(|field| field.iter().all(is_field_byte))
+        && (meaning.features.is_empty() || meaning.processor.is_some())
+        && meaning.features.len() <= FEATURE_LIMIT
+        && canonical(&meaning).len() as u64 <= ID_LIMIT;
+    keeps_rules.then_some(meaning)
+}
+
+/// "An ID is cut at its first `:`." The second part is nothing where there is no `:`.
+fn cut_at_first_colon(id: &[u8]) -> (&[u8], Option<&[u8]>) {
+    match id.iter().position(|byte| *byte == b':') {
+        None => (id, None),
+        Some(at) => (&id[..at], Some(&id[at + 1..])),
+    }
+}
+
+/// The rules for four, five and six fields. "Any other number is refused."
+fn environment_and_processor<'a>(fields: &[&'a [u8]]) -> Option<(&'a [u8], Option<&'a [u8]>)> {
+    match fields.len() {
+        4 => Some((b"", None)),
+        5 if fields[4].starts_with(b"gfx") || fields[4].starts_with(b"sm_") => Some((b"", Some(fields[4]))),
+        5 => Some((fields[4], None)),
+        6 if fields[5].is_empty() => Some((fields[4], None)),
+        6 => Some((fields[4], Some(fields[5]))),
+        _ => None,
+    }
+}
+
+/// "Kind is exactly `host`, `hip`, `hipv4` or `openmp`."
+fn is_kind(kind: &[u8]) -> bool {
+    kind == b"host" || kind == b"hip" || kind == b"hipv4" || kind == b"openmp"
+}
+
+/// "Fields after the kind use ASCII letters, digits, `_` and `.`."
+fn is_field_byte(byte: &u8) -> bool {
+    byte.is_ascii_alphabetic() || byte.is_ascii_digit() || *byte == b'_' || *byte == b'.'
+}
+
+/// "Each piece after a `:` is a feature". "A name stated twice is refused".
+fn features(text: Option<&[u8]>) -> Option<BTreeMap<Vec<u8>, Sign>> {
+    let mut features = BTreeMap::new();
+    let Some(text) = text else {
+        return Some(features);
+    };
+    for piece in text.split(|byte| *byte == b':') {
+        let (name, sign) = feature(piece)?;
+        if features.insert(name.to_vec(), sign).is_some() {
+            return None;
+        }
+    }
+    Some(features)
+}
+
+/// "a name of one or more of a-z, 0-9, `_`, then `+` (on) or `-` (off)".
+fn feature(piece: &[u8]) -> Option<(&[u8], Sign)> {
+    let (last, name) = piece.split_last()?;
+    let sign = match *last {
+        b'+' => Sign::On,
+        b'-' => Sign::Off,
+        _ => return None,
+    };
+    let is_name = !name.is_empty() && name.iter().all(is_name_byte);
+    is_name.then_some((name, sign))
+}
+
+fn is_name_byte(byte: &u8) -> bool {
+    byte.is_ascii_lowercase() || byte.is_ascii_digit() || *byte == b'_'
+}
+
+/// "The canonical form always writes six fields, then the features in byte order of their names, a shorter name before a longer one
+/// that begins with it." That is the order of a `BTreeMap` over byte strings.
+pub fn canonical(meaning: &Meaning) -> Vec<u8> {
+    let processor: &[u8] = match &meaning.processor {
+        None => b"",
+        Some(name) => name,
+    };
+    let fields: [&[u8]; 6] =
+        [&meaning.kind, &meaning.arch, &meaning.vendor, &meaning.system, &meaning.environment, processor];
+    let mut text = fields.join(&b'-');
+    for (name, sign) in &meaning.features {
+        text.push(b':');
+        text.extend(name);
+        text.push(sign_byte(*sign));
+    }
+    text
+}
+
+pub fn sign_byte(sign: Sign) -> u8 {
+    match sign {
+        Sign::On => b'+',
+        Sign::Off => b'-',
+    }
+}
+
+/// "kind, triple and processor are the same (both may lack a processor)".
+pub fn same_target(one: &Meaning, other: &Meaning) -> bool {
+    one.kind == other.kind
+        && one.arch == other.arch
+        && one.vendor == other.vendor
+        && one.system == other.system
+        && one.environment == other.environment
+        && one.processor == other.processor
+}
+
+/// "every feature that the entry states is stated by the device with the same sign".
+pub fn compatible(entry: &Meaning, device: &Meaning) -> bool {
+    same_target(entry, device) && entry.features.iter().all(|(name, sign)| device.features.get(name) == Some(sign))
+}
+
+/// "Entries with the same kind, triple and processor state the same set of feature names": these two do not.
+pub fn mixed(one: &Meaning, other: &Meaning) -> bool {
+    same_target(one, other) && feature_names(one) != feature_names(other)
+}
+
+fn feature_names(meaning: &Meaning) -> BTreeSet<&[u8]> {
+    meaning.features.keys().map(|name| name.as_slice()).collect()
+}

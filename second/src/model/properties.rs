@@ -1,0 +1,170 @@
+//! What document 01 says of the rules as a whole, tried on generated cases.
+
+use super::binaries::read_all;
+use super::binary_writer::{write_binary, PairParts};
+use super::bundle::{check, entries, normalise, pick, Entry};
+use super::bundle_writer::write_bundle;
+use super::id::{canonical, compatible, meaning, mixed};
+use super::*;
+use crate::gen::bundles::{some_count, Draft};
+use crate::gen::random::Random;
+use crate::gen::{binary_contents, ids, records};
+
+const CASES: u64 = 3000;
+
+fn each_case(run: impl Fn(&mut Random)) {
+    for case in 0..CASES {
+        run(&mut Random::of_case(2, case));
+    }
+}
+
+fn some_bundle(random: &mut Random) -> Draft {
+    let count = some_count(random);
+    Draft::good(random, count)
+}
+
+fn normal_form(bundle: &[u8]) -> Vec<u8> {
+    let mut out = vec![0; 1 << 16];
+    let written = normalise(bundle, &mut out);
+    assert_eq!((written.number, written.place), (OK, 0));
+    out.truncate(written.length as usize);
+    out
+}
+
+/// The bytes that a pick gives, or its number.
+fn picked_bytes<'a>(bundle: &'a [u8], device: &[u8]) -> Result<&'a [u8], u64> {
+    let picked = pick(bundle, device);
+    if picked.number != OK {
+        return Err(picked.number);
+    }
+    Ok(&bundle[picked.position as usize..][..picked.size as usize])
+}
+
+/// "each entry of either has one in the other with the same kind as spelled, triple, processor, stated features and signs, and an image
+/// of the same size and bytes".
+fn same_entries(one: &[u8], other: &[u8]) -> bool {
+    let (one, other) = (entries(one).unwrap(), entries(other).unwrap());
+    let all_in = |those: &[Entry], these: &[Entry]| {
+        those.iter().all(|a| these.iter().any(|b| a.meaning == b.meaning && a.image == b.image))
+    };
+    all_in(&one, &other) && all_in(&other, &one)
+}
+
+#[test]
+fn a_canonical_form_has_its_own_meaning_and_form() {
+    each_case(|random| {
+        let expected = ids::some_meaning(random);
+        let text = canonical(&expected);
+        assert_eq!(meaning(&text), Some(expected));
+    });
+}
+
+#[test]
+fn a_device_gets_at_most_one_of_two_that_may_stand_together() {
+    each_case(|random| {
+        let one = ids::some_meaning(random);
+        let device = ids::with_more_features(random, &one);
+        let other = ids::with_more_features(random, &one);
+        if compatible(&one, &device) && compatible(&other, &device) {
+            assert!(one == other || mixed(&one, &other));
+        }
+    });
+}
+
+#[test]
+fn normal_form_is_accepted_and_its_own() {
+    each_case(|random| {
+        let draft = some_bundle(random);
+        let normal = normal_form(&draft.bytes());
+        assert_eq!(check(&normal).count, draft.count);
+        assert_eq!(normal_form(&normal), normal);
+        assert!(same_entries(&draft.bytes(), &normal));
+    });
+}
+
+#[test]
+fn normal_form_gives_the_same_picks() {
+    each_case(|random| {
+        let draft = some_bundle(random);
+        let (bundle, normal) = (draft.bytes(), normal_form(&draft.bytes()));
+        for row in &draft.rows {
+            let device = ids::with_more_features(random, &row.meaning);
+            let device = ids::spelled(random, &device);
+            assert_eq!(picked_bytes(&bundle, &device), picked_bytes(&normal, &device));
+        }
+        assert_eq!(picked_bytes(&bundle, &draft.device), picked_bytes(&normal, &draft.device));
+    });
+}
+
+#[test]
+fn normal_forms_are_equal_exactly_when_the_entries_are() {
+    each_case(|random| {
+        let mut one = Draft::good(random, 3);
+        let mut other = one.clone();
+        random.shuffle(&mut other.rows);
+        if random.one_in(2) && !other.body.is_empty() {
+            let at = random.below(other.body.len());
+            other.body[at] ^= 1;
+        }
+        for row in one.rows.iter_mut().chain(&mut other.rows) {
+            row.id = ids::spelled(random, &row.meaning);
+            row.id_length = row.id.len() as u64;
+        }
+        let (one, other) = (one.bytes(), other.bytes());
+        assert_eq!(normal_form(&one) == normal_form(&other), same_entries(&one, &other));
+    });
+}
+
+#[test]
+fn what_follows_the_table_changes_no_answer() {
+    each_case(|random| {
+        let mut draft = some_bundle(random);
+        let one = draft.bytes();
+        draft.body = random.bytes(draft.body.len());
+        let other = draft.bytes();
+        assert_eq!(check(&one), check(&other));
+        assert_eq!(pick(&one, &draft.device), pick(&other, &draft.device));
+    });
+}
+
+#[test]
+fn what_the_bundle_writer_writes_is_read_back() {
+    each_case(|random| {
+        let count = some_count(random);
+        let case = records::Case::good(random, count);
+        let mut out = vec![0; 1 << 16];
+        let written = write_bundle(&case.records, &case.ids, &case.images, &mut out);
+        assert_eq!(written.number, OK);
+        let entries = entries(&out[..written.length as usize]).unwrap();
+        assert_eq!(entries.len(), case.records.len());
+        for (entry, record) in entries.iter().zip(&case.records) {
+            assert_eq!(Some(entry.image), part(&case.images, record.image_start, record.image_length));
+            let id = part(&case.ids, record.id_start, record.id_length).unwrap();
+            assert_eq!(Some(&entry.meaning), meaning(id).as_ref());
+        }
+    });
+}
+
+#[test]
+fn what_the_binary_writer_writes_is_read_back() {
+    each_case(|random| {
+        let case = binary_contents::some_case(random);
+        let mut out = vec![0; 1 << 16];
+        let written = write_binary(&case.content, &case.strings, &case.image, &mut out);
+        assert_eq!(written.number, OK);
+        out.truncate(written.length as usize);
+        let answers = read_all(&out);
+        assert_eq!((answers.len(), answers[1].number), (2, END));
+        let binary = &answers[0];
+        assert_eq!(binary.image_kind, case.content.image_kind);
+        assert_eq!(binary.offload_kind, case.content.offload_kind);
+        assert_eq!(binary.flags, case.content.flags as u64);
+        assert_eq!(part(&out, binary.image_place, binary.image_length), Some(&case.image[..]));
+        assert_eq!(binary.pairs.len(), case.content.pairs.len());
+        for (pair, parts) in binary.pairs.iter().zip(&case.content.pairs) {
+            let PairParts { key_start, key_length, text_start, text_length } = *parts;
+            assert_eq!(part(&out, pair.key_place, pair.key_length), part(&case.strings, key_start, key_length));
+            assert_eq!(part(&out, pair.text_place, pair.text_length), part(&case.strings, text_start, text_length));
+        }
+    });
+}

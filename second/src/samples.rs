@@ -1,0 +1,238 @@
+//! The files of `samples/`, with what they hold.
+
+/// A bundle, and its entries in order: canonical ID and image.
+pub struct BundleSample {
+    pub name: &'static str,
+    pub bytes: &'static [u8],
+    pub entries: &'static [(&'static str, &'static [u8])],
+}
+
+/// Offload binaries laid end to end.
+pub struct BinariesSample {
+    pub name: &'static str,
+    pub bytes: &'static [u8],
+    pub binaries: &'static [BinarySample],
+}
+
+pub struct BinarySample {
+    pub image_kind: u64,
+    pub offload_kind: u64,
+    pub image: &'static [u8],
+    pub pairs: &'static [(&'static str, &'static str)],
+}
+
+macro_rules! sample {
+    ($path:literal) => {
+        include_bytes!(concat!("../../samples/", $path))
+    };
+}
+
+const HOST: &str = "host-x86_64-unknown-linux-gnu-";
+
+pub const BUNDLES: &[BundleSample] = &[
+    BundleSample {
+        name: "three-cards",
+        bytes: sample!("bundles/three-cards.bundle"),
+        entries: &[
+            (HOST, b""),
+            ("hip-amdgcn-amd-amdhsa--gfx906:sramecc+:xnack+", sample!("images/gfx906-sramecc+xnack+.o")),
+            ("hip-amdgcn-amd-amdhsa--gfx906:sramecc+:xnack-", sample!("images/gfx906-sramecc+xnack-.o")),
+            ("hip-amdgcn-amd-amdhsa--gfx906:sramecc-:xnack+", sample!("images/gfx906-sramecc-xnack+.o")),
+            ("hip-amdgcn-amd-amdhsa--gfx906:sramecc-:xnack-", sample!("images/gfx906-sramecc-xnack-.o")),
+            ("hip-amdgcn-amd-amdhsa--gfx90a:sramecc+:xnack+", sample!("images/gfx90a-sramecc+xnack+.o")),
+            ("hip-amdgcn-amd-amdhsa--gfx90a:sramecc+:xnack-", sample!("images/gfx90a-sramecc+xnack-.o")),
+            ("hip-amdgcn-amd-amdhsa--gfx1030", sample!("images/gfx1030.o")),
+        ],
+    },
+    BundleSample {
+        name: "aligned",
+        bytes: sample!("bundles/aligned.bundle"),
+        entries: &[
+            (HOST, b""),
+            ("hipv4-amdgcn-amd-amdhsa--gfx90a:sramecc+:xnack-", sample!("images/gfx90a-sramecc+xnack-.o")),
+            ("hipv4-amdgcn-amd-amdhsa--gfx906:sramecc-:xnack+", sample!("images/gfx906-sramecc-xnack+.o")),
+            ("hipv4-amdgcn-amd-amdhsa--gfx1030", sample!("images/gfx1030.o")),
+        ],
+    },
+    BundleSample {
+        name: "kinds",
+        bytes: sample!("bundles/kinds.bundle"),
+        entries: &[
+            (HOST, sample!("images/host.bc")),
+            ("openmp-amdgcn-amd-amdhsa--gfx906", sample!("images/gfx906.bc")),
+            ("hip-amdgcn-amd-amdhsa--gfx906", sample!("images/gfx906.o")),
+            ("openmp-nvptx64-nvidia-cuda--sm_70", sample!("images/sm_70.s")),
+            ("openmp-nvptx64-nvidia-cuda--sm_80", sample!("images/sm_80.s")),
+        ],
+    },
+    BundleSample { name: "host-only", bytes: sample!("bundles/host-only.bundle"), entries: &[(HOST, b"")] },
+    BundleSample {
+        name: "five-fields",
+        bytes: sample!("bundles/five-fields.bundle"),
+        entries: &[
+            (HOST, b""),
+            ("hip-amdgcn-amd-amdhsa--gfx906:sramecc-:xnack+", sample!("images/gfx906-sramecc-xnack+.o")),
+            ("hip-amdgcn-amd-amdhsa--gfx906:sramecc+:xnack+", sample!("images/gfx906-sramecc+xnack+.o")),
+            ("openmp-amdgcn-amd-amdhsa--gfx1030", sample!("images/gfx1030.o")),
+        ],
+    },
+];
+
+/// Device names that some samples answer with an image and others with NONE, and some that break the rules.
+pub const DEVICES: &[&str] = &[
+    "host-x86_64-unknown-linux-gnu",
+    "hip-amdgcn-amd-amdhsa-gfx906",
+    "hip-amdgcn-amd-amdhsa-gfx906:xnack+:sramecc-",
+    "hip-amdgcn-amd-amdhsa--gfx906:sramecc+:xnack-",
+    "hip-amdgcn-amd-amdhsa--gfx906:xnack-",
+    "hip-amdgcn-amd-amdhsa--gfx90a:sramecc+:xnack-",
+    "hip-amdgcn-amd-amdhsa--gfx90a:sramecc-:xnack-",
+    "hip-amdgcn-amd-amdhsa--gfx1030:cumode+",
+    "hipv4-amdgcn-amd-amdhsa--gfx90a:sramecc+:xnack-",
+    "hipv4-amdgcn-amd-amdhsa--gfx1030",
+    "openmp-amdgcn-amd-amdhsa--gfx1030",
+    "openmp-amdgcn-amd-amdhsa-gfx906:sramecc-",
+    "openmp-nvptx64-nvidia-cuda-sm_70",
+    "openmp-nvptx64-nvidia-cuda--sm_80",
+    "openmp-nvptx64-nvidia-cuda--sm_90",
+    "hip-amdgcn-amd-amdhsa--gfx906:xnack",
+    "gfx906",
+    "",
+];
+
+pub const BINARIES: &[BinariesSample] = &[
+    BinariesSample {
+        name: "one",
+        bytes: sample!("binaries/one.bin"),
+        binaries: &[BinarySample {
+            image_kind: 1,
+            offload_kind: 0,
+            image: sample!("images/gfx906.o"),
+            pairs: &[("triple", "amdgcn-amd-amdhsa"), ("arch", "gfx906")],
+        }],
+    },
+    BinariesSample {
+        name: "bitcode",
+        bytes: sample!("binaries/bitcode.bin"),
+        binaries: &[BinarySample {
+            image_kind: 2,
+            offload_kind: 1,
+            image: sample!("images/gfx906.bc"),
+            pairs: &[("triple", "amdgcn-amd-amdhsa"), ("arch", "gfx906")],
+        }],
+    },
+    BinariesSample {
+        name: "kinds",
+        bytes: sample!("binaries/kinds.bin"),
+        binaries: &[
+            BinarySample {
+                image_kind: 1,
+                offload_kind: 3,
+                image: sample!("images/gfx906-sramecc-xnack+.o"),
+                pairs: &[("triple", "amdgcn-amd-amdhsa"), ("arch", "gfx906:sramecc-:xnack+")],
+            },
+            BinarySample {
+                image_kind: 2,
+                offload_kind: 1,
+                image: sample!("images/gfx906.bc"),
+                pairs: &[("triple", "amdgcn-amd-amdhsa"), ("arch", "gfx906")],
+            },
+            BinarySample {
+                image_kind: 5,
+                offload_kind: 2,
+                image: sample!("images/sm_70.s"),
+                pairs: &[("triple", "nvptx64-nvidia-cuda"), ("arch", "sm_70")],
+            },
+            BinarySample {
+                image_kind: 5,
+                offload_kind: 2,
+                image: sample!("images/sm_80.s"),
+                pairs: &[("triple", "nvptx64-nvidia-cuda"), ("arch", "sm_80")],
+            },
+        ],
+    },
+    BinariesSample {
+        name: "pairs",
+        bytes: sample!("binaries/pairs.bin"),
+        binaries: &[
+            BinarySample {
+                image_kind: 1,
+                offload_kind: 1,
+                image: sample!("images/gfx1030.o"),
+                pairs: &[
+                    ("triple", "amdgcn-amd-amdhsa"),
+                    ("arch", "gfx1030"),
+                    ("feature", "-wavefrontsize64"),
+                    ("note", "arch"),
+                    ("empty", ""),
+                ],
+            },
+            BinarySample {
+                image_kind: 0,
+                offload_kind: 1,
+                image: b"",
+                pairs: &[("triple", "amdgcn-amd-amdhsa"), ("arch", "gfx1030")],
+            },
+        ],
+    },
+];
+
+#[cfg(test)]
+mod tests {
+    use super::*;
+    use crate::model::binaries::{read_all, Binary, Pair};
+    use crate::model::bundle::{check, pick, Checked};
+    use crate::model::{END, NONE, OK, QUERY};
+    use std::collections::{BTreeMap, BTreeSet};
+
+    #[test]
+    fn bundles_hold_their_images() {
+        for sample in BUNDLES {
+            let count = sample.entries.len() as u64;
+            assert_eq!(check(sample.bytes), Checked { number: OK, place: 0, count }, "{}", sample.name);
+            for (index, (id, image)) in sample.entries.iter().enumerate() {
+                let picked = pick(sample.bytes, id.as_bytes());
+                assert_eq!((picked.number, picked.index), (OK, index as u64), "{}: {id}", sample.name);
+                let found = &sample.bytes[picked.position as usize..][..picked.size as usize];
+                assert!(found == *image, "{}: {id}", sample.name);
+            }
+        }
+    }
+
+    #[test]
+    fn devices_get_each_answer() {
+        for sample in BUNDLES {
+            let numbers: BTreeSet<u64> =
+                DEVICES.iter().map(|device| pick(sample.bytes, device.as_bytes()).number).collect();
+            assert_eq!(numbers, BTreeSet::from([OK, QUERY, NONE]), "{}", sample.name);
+        }
+    }
+
+    fn pairs<'a>(bytes: &'a [u8], pairs: &[Pair]) -> BTreeMap<&'a str, &'a str> {
+        let text = |place: u64, length: u64| std::str::from_utf8(&bytes[place as usize..][..length as usize]).unwrap();
+        pairs
+            .iter()
+            .map(|pair| (text(pair.key_place, pair.key_length), text(pair.text_place, pair.text_length)))
+            .collect()
+    }
+
+    fn holds(bytes: &[u8], binary: &Binary, sample: &BinarySample) -> bool {
+        binary.number == OK
+            && binary.image_kind == sample.image_kind
+            && binary.offload_kind == sample.offload_kind
+            && bytes[binary.image_place as usize..][..binary.image_length as usize] == *sample.image
+            && pairs(bytes, &binary.pairs) == sample.pairs.iter().copied().collect()
+    }
+
+    #[test]
+    fn binaries_hold_their_images() {
+        for sample in BINARIES {
+            let answers = read_all(sample.bytes);
+            assert_eq!(answers.len(), sample.binaries.len() + 1, "{}", sample.name);
+            for (answer, binary) in answers.iter().zip(sample.binaries) {
+                assert!(holds(sample.bytes, answer, binary), "{}: {answer:?}", sample.name);
+            }
+            assert_eq!(answers[sample.binaries.len()].number, END, "{}", sample.name);
+        }
+    }
+}
