@@ -1,0 +1,4 @@
+pub mod ReaderLaws
+pub mod NextLaws
+pub mod Sequences
+pub mod Theorems

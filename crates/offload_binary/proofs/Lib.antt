@@ -1,0 +1,10 @@
+pub mod ListLaws
+pub mod BinaryLaws
+pub mod StringLaws
+pub mod PairLaws
+pub mod HeadLaws
+pub mod BodyLaws
+pub mod AtLaws
+pub mod WrittenLaws
+pub mod ReadBack
+pub mod Theorems

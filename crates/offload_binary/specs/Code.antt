@@ -1,0 +1,47 @@
+-- What the private functions of the reader ensure. No public promise rests on these. Definitions only.
+use Prim.Native.Nat.{ℕ}
+use mathlib.Core.Bool.{Bool, true, false, _||_, cond}
+use mathlib.Core.List.{List, []}
+use lib.ListN.{getD, drop}
+use lib.Dec.{ltb}
+use Rattle.wire.specs.Bytes.{same}
+use Rattle.wire.specs.First.{anyBelow}
+use Rattle.wire.specs.Stop.{earlier}
+use Rattle.offload_binary.specs.Lists.{tab, slots}
+use Rattle.offload_binary.specs.Binary.{bytesAt, run, entryOf, pair, badString, badPair, badStrings, bodyStop, noPair, handsBack, answerBy}
+use Rattle.offload_binary.specs.declared.StringPair.{StringPair}
+use Rattle.offload_binary.specs.declared.ReadPair.{ReadPair}
+use Rattle.offload_binary.specs.declared.ReadPairs.{ReadPairs}
+use Rattle.offload_binary.specs.declared.Answer.{Answer}
+
+-- how long the string at an offset is, and 257 where 16 is given for it
+unfoldable pub stringLen : List ℕ → ℕ → ℕ
+stringLen o at = cond (badString o at) 257 (run (drop at o))
+
+unfoldable pub readPair : ℕ → List ℕ → ℕ → ℕ → ReadPair
+readPair from o table i = cond (badPair o table i) (record { bad = true; pair = noPair }) (record { bad = false; pair = pair from o table i })
+
+abbrev pub noneRead : ReadPairs
+noneRead = record { bad = true; pairs = slots 32 noPair [] }
+
+abbrev pub pairsRead : ℕ → List ℕ → ℕ → ℕ → ReadPairs
+pairsRead from o table n = record { bad = false; pairs = slots 32 noPair (tab n (pair from o table)) }
+
+unfoldable pub readPairs : ℕ → List ℕ → ℕ → ℕ → ReadPairs
+readPairs from o table n = cond (anyBelow n (badPair o table)) noneRead (pairsRead from o table n)
+
+-- the key of pair i of an array of them
+unfoldable pub keyIn : List ℕ → List StringPair → ℕ → List ℕ
+keyIn s pairs i = bytesAt s (getD pairs i noPair .key)
+
+-- more than 32 pairs, or two of the first n have equal keys
+unfoldable pub badKeys : List ℕ → List StringPair → ℕ → Bool
+badKeys s pairs n = ltb 32 n || anyBelow n (earlier same (keyIn s pairs))
+
+-- 16, and where it is not given the pairs
+unfoldable pub readStrings : ℕ → List ℕ → ℕ → ℕ → ReadPairs
+readStrings from o table count = cond (badStrings o table count) noneRead (pairsRead from o table count)
+
+-- 15 to 17 of a binary's own bytes with its entry at an offset; where none is given, what it holds
+unfoldable pub bodyAnswer : ℕ → List ℕ → ℕ → Answer
+bodyAnswer from o at = answerBy (bodyStop o (entryOf o at) .number) from (handsBack from o (entryOf o at))

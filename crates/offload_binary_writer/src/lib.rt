@@ -1,0 +1,130 @@
+// Writes one of LLVM's offload binaries over a lent output.
+use offload_binary::Part;
+use offload_binary::StringPair;
+ghost use mathlib.Core.Path.{_≡_};
+ghost use mathlib.Core.List.{[], _∷_, _++_};
+ghost use Prim.Native.Nat.{ℕ, _+_, _*_, _<_, _≤_};
+ghost use lib.ListN.{length, replicate};
+ghost use Rattle.wire.specs.Bytes.{overwrite};
+ghost use Rattle.offload_binary.specs.Lists.{tab};
+ghost use Rattle.offload_binary.specs.Contents.{fieldBytes, offsets, stringBytes, up8};
+ghost use Rattle.offload_binary_writer.specs.Writer.{badPart, badPair};
+ghost use Rattle.offload_binary_writer.specs.Code.{partIn, textIn, headerBytes, entryFields};
+
+// The kinds and the flags of a binary.
+pub struct Tags {
+    pub image_kind: u64,
+    pub offload_kind: u64,
+    pub flags: u32,
+}
+
+// OK and the length written; or a refusal, place 0, and nothing written.
+pub struct Written {
+    pub number: usize,
+    pub place: usize,
+    pub len: usize,
+}
+
+// Where the parts of a binary stand: its strings from `strings` to `end`, its image from `image` to `stop`.
+struct Layout {
+    strings: usize,
+    end: usize,
+    image: usize,
+    stop: usize,
+    size: usize,
+}
+
+// 16 of a part of the string buffer: outside it, over 256 bytes, or with a zero byte inside.
+fn bad_part(buf: &[u8], part: Part) -> bool
+    ensures { λ r. ⌜ r ≡ badPart (now (buf .entry)) part ⌝ }
+{
+    let start = part.start;
+    let len = part.len;
+    if offload_binary::passes(buf.len(), start, len) {
+        return true;
+    }
+    if 256 < len {
+        return true;
+    }
+    let text = offload_binary::bytes_at(buf, part);
+    offload_binary::before_zero(text) < text.len()
+}
+
+// 16 of a pair.
+fn bad_pair(buf: &[u8], pair: StringPair) -> bool
+    ensures { λ r. ⌜ r ≡ badPair (now (buf .entry)) pair ⌝ }
+{
+    let key = pair.key;
+    let text = pair.text;
+    if bad_part(buf, key) {
+        return true;
+    }
+    if bad_part(buf, text) {
+        return true;
+    }
+    key.len == 0
+}
+
+// The part that holds string j: the key of a pair, then its text.
+fn part_in(pairs: [StringPair; 32], j: usize) -> Part
+    requires { ⌜ j < 64 ⌝ }
+    ensures { λ r. ⌜ r ≡ partIn pairs j ⌝ }
+{
+    let pair = pairs[j / 2];
+    if j % 2 == 0 {
+        return pair.key;
+    }
+    pair.text
+}
+
+fn text_in<'a>(buf: &'a [u8], pairs: [StringPair; 32], j: usize) -> &'a [u8]
+    requires { ⌜ j < 64 ⌝ }
+    ensures { λ r. ⌜ now r ≡ textIn (now (buf .entry)) pairs j ⌝ }
+{
+    offload_binary::bytes_at(buf, part_in(pairs, j))
+}
+
+// How long the first m strings are with their zero bytes.
+fn texts_len(buf: &[u8], pairs: [StringPair; 32], m: usize) -> usize
+    requires { ⌜ (m ≤ 64) × ((j : ℕ) → j < m → length (textIn (now buf) pairs j) ≤ 256) ⌝ }
+    ensures { λ r. ⌜ (r ≡ length (stringBytes (tab m (textIn (now (buf .entry)) pairs)))) × (r ≤ 257 * m) ⌝ }
+{
+    let mut at = 0;
+    let mut j = 0;
+    while j < m {
+        let text = text_in(buf, pairs, j);
+        at = at + text.len() + 1;
+        j += 1;
+    }
+    at
+}
+
+// The next multiple of 8.
+fn up_to_8(n: usize) -> usize
+    requires { ⌜ n ≤ 4294967296 ⌝ }
+    ensures { λ r. ⌜ r ≡ up8 n ⌝ }
+{
+    (n + 7) / 8 * 8
+}
+
+// n zero bytes at `at`.
+fn put_zeros(out: &mut [u8], at: usize, n: usize)
+    requires { ⌜ n ≤ 8 ⌝ }
+    ensures { λ _. ⌜ now (out .exit) ≡ overwrite (now (out .entry)) at (replicate n 0) ⌝ }
+{
+    let zeros = [0u8; 8];
+    wire::copy_at(
+        out,
+        at,
+        offload_binary::bytes_at(&zeros, Part { start: 0, len: n }),
+    );
+}
+
+// A string and its zero byte at `at`.
+fn put_text(out: &mut [u8], at: usize, text: &[u8])
+    requires { ⌜ at + length (now text) + 1 ≤ length (now out) ⌝ }
+    ensures { λ _. ⌜ now (out .exit) ≡ overwrite (now (out .entry)) at (now (text .entry) ++ (0 ∷ [])) ⌝ }
+{
+    wire::copy_at(out, at, text);
+    put_zeros(out, at + text.len(), 1);
+}
