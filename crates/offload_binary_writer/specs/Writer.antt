@@ -7,7 +7,7 @@ use lib.Dec.{ltb, eqb}
 use Rattle.wire.specs.Bytes.{same}
 use Rattle.wire.specs.First.{anyBelow}
 use Rattle.wire.specs.Stop.{Stop, _⨾_, stopIf, earlier}
-use Rattle.offload_binary.specs.Binary.{bytesAt, ended, badKinds, noPair}
+use Rattle.offload_binary.specs.Binary.{bytesAt, ended, badKinds, noPair, keyIn}
 use Rattle.offload_binary.specs.Contents.{Contents, keyText, binarySize, written, tooBig}
 use Rattle.offload_binary.specs.declared.Part.{Part}
 use Rattle.offload_binary.specs.declared.StringPair.{StringPair}
@@ -23,10 +23,6 @@ badPart buf p = ltb (length buf) (p .start + p .len) || ltb 256 (p .len) || ende
 -- the same of a pair's parts; "empty" key
 unfoldable pub badPair : List ℕ → StringPair → Bool
 badPair buf p = badPart buf (p .key) || badPart buf (p .text) || eqb (p .key .len) 0
-
--- the key of pair i
-unfoldable pub keyIn : List ℕ → List StringPair → ℕ → List ℕ
-keyIn buf pairs i = bytesAt buf (getD pairs i noPair .key)
 
 -- all of 16: "counts", "equal keys"
 unfoldable pub badPairs : List ℕ → List StringPair → Bool

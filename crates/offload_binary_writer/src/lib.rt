@@ -7,9 +7,9 @@ ghost use Prim.Native.Nat.{ℕ, _+_, _*_, _<_, _≤_};
 ghost use lib.ListN.{length, replicate};
 ghost use Rattle.wire.specs.Bytes.{overwrite};
 ghost use Rattle.offload_binary.specs.Lists.{tab};
-ghost use Rattle.offload_binary.specs.Contents.{fieldBytes, offsets, stringBytes, up8};
-ghost use Rattle.offload_binary_writer.specs.Writer.{badPart, badPair};
-ghost use Rattle.offload_binary_writer.specs.Code.{partIn, textIn, headerBytes, entryFields};
+ghost use Rattle.offload_binary.specs.Contents.{fieldBytes, offsets, stringBytes, up8, written};
+ghost use Rattle.offload_binary_writer.specs.Writer.{badPart, badPair, given};
+ghost use Rattle.offload_binary_writer.specs.Code.{partIn, textIn, listed, LayoutIs, headerBytes, entryFields};
 
 // The kinds and the flags of a binary.
 pub struct Tags {
@@ -127,4 +127,109 @@ fn put_text(out: &mut [u8], at: usize, text: &[u8])
 {
     wire::copy_at(out, at, text);
     put_zeros(out, at + text.len(), 1);
+}
+
+// The header, at 0.
+fn write_header(out: &mut [u8], size: usize)
+    requires { ⌜ 72 ≤ length (now out) ⌝ }
+    ensures { λ _. ⌜ now (out .exit) ≡ overwrite (now (out .entry)) 0 (headerBytes size) ⌝ }
+{
+    let magic = offload_binary::MAGIC;
+    wire::copy_at(out, 0, &magic);
+    wire::put_word4(out, 4, 1);
+    wire::put_word8(out, 8, size as u64);
+    wire::put_word8(out, 16, 32);
+    wire::put_word8(out, 24, 40);
+}
+
+// The entry, at 32.
+fn write_entry(out: &mut [u8], tags: Tags, count: usize, image: usize, len: usize)
+    requires { ⌜ 72 ≤ length (now out) ⌝ }
+    ensures { λ _. ⌜ now (out .exit) ≡ overwrite (now (out .entry)) 32 (fieldBytes (entryFields tags count image len)) ⌝ }
+{
+    let flags = tags.flags as u64;
+    wire::put_word2(out, 32, tags.image_kind);
+    wire::put_word2(out, 34, tags.offload_kind);
+    wire::put_word4(out, 36, flags);
+    wire::put_word8(out, 40, 72);
+    wire::put_word8(out, 48, count as u64);
+    wire::put_word8(out, 56, image as u64);
+    wire::put_word8(out, 64, len as u64);
+}
+
+// The offsets of the first m strings, at 72: the strings start at `first`.
+fn write_offsets(out: &mut [u8], buf: &[u8], pairs: [StringPair; 32], m: usize, first: usize)
+    requires { ⌜ (72 + 8 * m ≤ length (now out)) × ((m ≤ 64) × ((first ≤ 1000) × ((j : ℕ) → j < m → length (textIn (now buf) pairs j) ≤ 256))) ⌝ }
+    ensures { λ _. ⌜ now (out .exit) ≡ overwrite (now (out .entry)) 72 (fieldBytes (offsets first (tab m (textIn (now (buf .entry)) pairs)))) ⌝ }
+{
+    let mut at = first;
+    let mut j = 0;
+    while j < m {
+        let text = text_in(buf, pairs, j);
+        let place = 72 + 8 * j;
+        wire::put_word8(out, place, at as u64);
+        at = at + text.len() + 1;
+        j += 1;
+    }
+}
+
+// The first m strings with their zero bytes, at `first`.
+fn write_texts(out: &mut [u8], buf: &[u8], pairs: [StringPair; 32], m: usize, first: usize)
+    requires { ⌜ (first + length (stringBytes (tab m (textIn (now buf) pairs))) ≤ length (now out)) × (m ≤ 64) ⌝ }
+    ensures { λ _. ⌜ now (out .exit) ≡ overwrite (now (out .entry)) first (stringBytes (tab m (textIn (now (buf .entry)) pairs))) ⌝ }
+{
+    let mut at = first;
+    let mut j = 0;
+    while j < m {
+        let text = text_in(buf, pairs, j);
+        put_text(out, at, text);
+        at = at + text.len() + 1;
+        j += 1;
+    }
+}
+
+// Where the parts of a binary with the first n pairs and an image of `len` bytes stand.
+fn places(buf: &[u8], pairs: [StringPair; 32], n: usize, len: usize) -> Layout
+    requires { ⌜ (n ≤ 32) × ((len ≤ 1073741824) × ((j : ℕ) → j < 2 * n → length (textIn (now buf) pairs j) ≤ 256)) ⌝ }
+    ensures { λ r. ⌜ LayoutIs (textIn (now (buf .entry)) pairs) n len r ⌝ }
+{
+    let strings = 72 + 16 * n;
+    let end = strings + texts_len(buf, pairs, 2 * n);
+    let image = up_to_8(end);
+    let stop = image + len;
+    let size = up_to_8(stop);
+    Layout {
+        strings,
+        end,
+        image,
+        stop,
+        size,
+    }
+}
+
+// The whole binary, from the start of the output on.
+fn write_parts(
+    out: &mut [u8],
+    tags: Tags,
+    image: &[u8],
+    pairs: [StringPair; 32],
+    n: usize,
+    buf: &[u8],
+    at: Layout,
+)
+    requires { ⌜ (n ≤ 32) × ((LayoutIs (textIn (now buf) pairs) n (length (now image)) at) × ((at .size ≤ length (now out)) × ((j : ℕ) → j < 2 * n → length (textIn (now buf) pairs j) ≤ 256))) ⌝ }
+    ensures { λ _. ⌜ now (out .exit) ≡ overwrite (now (out .entry)) 0 (written (given tags (now (image .entry)) (listed pairs n) (now (buf .entry)))) ⌝ }
+{
+    let strings = at.strings;
+    let end = at.end;
+    let start = at.image;
+    let stop = at.stop;
+    let size = at.size;
+    write_header(out, size);
+    write_entry(out, tags, n, start, image.len());
+    write_offsets(out, buf, pairs, 2 * n, strings);
+    write_texts(out, buf, pairs, 2 * n, strings);
+    put_zeros(out, end, start - end);
+    wire::copy_at(out, start, image);
+    put_zeros(out, stop, size - stop);
 }

@@ -1,3 +1,10 @@
+use Prim.Native.Nat.{_+_}
+use native.Mathlib.Omega.{arith}
+use mathlib.Core.Path.{refl, ap, _∙_}
+use mathlib.Core.List.{[], _∷_}
+use Rattle.wire.specs.Bytes.{overwrite}
+use Rattle.wire.proofs.OverwriteLaws.{overwrite-then}
+use lib.ListN.{length}
 use borrow.Author.Needs.{needs}
 use Rattle.offload_binary_writer.proofs.put_text.Statement.{statement}
 use Rattle.offload_binary_writer.proofs.put_text.Tie as tie
@@ -24,7 +31,11 @@ same-length c = search needs
 
 -- src/lib.rt:124:1
 returns : tie.Need-returns
-returns c = ?
+returns c =
+    let a = c .before .before .before .before .before .before .before .before .before .before .args in
+    c .before .before .put-zeros .ensures
+    ∙ ap (λ o. overwrite o (a .at + length (a .text .now)) (0 ∷ [])) (c .before .before .before .before .before .before .copy-at .ensures)
+    ∙ overwrite-then (a .out .now) (a .at) (a .at + length (a .text .now)) (a .text .now) (0 ∷ []) refl (omega (arith, c .before .before .before .before .before .before .before .before .before .before .pre))
 
 pub put-text-spec : {M : Type 1} → statement M
 put-text-spec =

@@ -1,3 +1,8 @@
+use mathlib.Core.Path.{_≡_, ap, _∙_}
+use lib.ListN.{replicate}
+use Rattle.wire.specs.Bytes.{overwrite}
+use Rattle.offload_binary.specs.Binary.{bytesAt}
+use Rattle.offload_binary_writer.proofs.TextLaws.{few-zeros}
 use borrow.Author.Needs.{needs}
 use Rattle.offload_binary_writer.proofs.put_zeros.Statement.{statement}
 use Rattle.offload_binary_writer.proofs.put_zeros.Tie as tie
@@ -24,7 +29,10 @@ same-length c = search needs
 
 -- src/lib.rt:111:1
 returns : tie.Need-returns
-returns c = ?
+unfolding bytesAt
+returns c =
+    let a = c .before .before .before .before .before .before .before .args in
+    c .before .before .copy-at .ensures ∙ ap (overwrite (a .out .now) (a .at)) (c .before .before .before .bytes-at .ensures ∙ few-zeros (a .n) (c .before .before .before .before .before .before .before .pre))
 
 pub put-zeros-spec : {M : Type 1} → statement M
 put-zeros-spec =

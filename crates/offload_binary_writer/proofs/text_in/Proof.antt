@@ -1,3 +1,6 @@
+use mathlib.Core.Path.{ap, _∙_}
+use Rattle.offload_binary.specs.Binary.{bytesAt}
+use Rattle.offload_binary_writer.specs.Code.{textIn}
 use borrow.Author.Needs.{needs}
 use Rattle.offload_binary_writer.proofs.text_in.Statement.{statement}
 use Rattle.offload_binary_writer.proofs.text_in.Tie as tie
@@ -16,7 +19,9 @@ bytes-at-requires c κs = search needs
 
 -- src/lib.rt:80:1
 returns : tie.Need-returns
-returns c = ?
+unfolding textIn
+returns c =
+    let a = c .before .before .before .args in c .bytes-at .ensures ∙ ap (bytesAt (a .buf .now)) (c .before .part-in .ensures)
 
 pub text-in-spec : {M : Type 1} → statement M
 text-in-spec = tie.close (tie.spec part-in-requires bytes-at-requires returns)

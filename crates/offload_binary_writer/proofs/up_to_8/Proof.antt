@@ -1,3 +1,5 @@
+use mathlib.Core.Path.{refl}
+use Rattle.offload_binary.specs.Contents.{up8}
 use borrow.Author.Needs.{needs}
 use Rattle.offload_binary_writer.proofs.up_to_8.Statement.{statement}
 use Rattle.offload_binary_writer.proofs.up_to_8.Tie as tie
@@ -14,7 +16,8 @@ mul-result c = search needs
 
 -- src/lib.rt:103:1
 returns : tie.Need-returns
-returns c = ?
+unfolding up8
+returns c = refl
 
 pub up-to-8-spec : {M : Type 1} → statement M
 up-to-8-spec = tie.close (tie.spec add-result mul-result returns)

@@ -1,0 +1,4 @@
+pub mod PartLaws
+pub mod TextLaws
+pub mod WriteLaws
+pub mod WholeLaws
