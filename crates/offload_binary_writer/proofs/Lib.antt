@@ -2,3 +2,4 @@ pub mod PartLaws
 pub mod TextLaws
 pub mod WriteLaws
 pub mod WholeLaws
+pub mod CallLaws

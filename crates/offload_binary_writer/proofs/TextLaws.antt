@@ -38,17 +38,17 @@ pub part-text : (pairs : List StringPair) (j : ℕ) → (j % 2 ≡ 0 → ⊥) �
 unfolding partIn
 part-text pairs j e = rw (ne-eqb _ _ e)
 
+pub length-listed : (pairs : List StringPair) (n : ℕ) → length (listed pairs n) ≡ n
+unfolding listed
+length-listed pairs n = length-tab n (λ i. getD pairs i noPair)
+
 -- the strings of the contents given are those of the pairs, one after another
 module _ (buf : List ℕ) (pairs : List StringPair) (n : ℕ) where
   abbrev ts : List KeyText
   ts = map (keyText buf) (listed pairs n)
 
-  length-listed : length (listed pairs n) ≡ n
-  unfolding listed
-  length-listed = length-tab n (λ i. getD pairs i noPair)
-
   pub length-given : length ts ≡ n
-  length-given = length-map (listed pairs n) (keyText buf) ∙ length-listed
+  length-given = length-map (listed pairs n) (keyText buf) ∙ length-listed pairs n
 
   given-at : (i : ℕ) → i < n → getD ts i noKeyText ≡ keyText buf (getD pairs i noPair)
   unfolding listed

@@ -8,7 +8,7 @@ ghost use lib.ListN.{length, replicate};
 ghost use Rattle.wire.specs.Bytes.{overwrite};
 ghost use Rattle.offload_binary.specs.Lists.{tab};
 ghost use Rattle.offload_binary.specs.Contents.{fieldBytes, offsets, stringBytes, up8, written};
-ghost use Rattle.offload_binary_writer.specs.Writer.{badPart, badPair, given};
+ghost use Rattle.offload_binary_writer.specs.Writer.{badPart, badPair, badPairs, given, write};
 ghost use Rattle.offload_binary_writer.specs.Code.{partIn, textIn, listed, LayoutIs, headerBytes, entryFields};
 
 // The kinds and the flags of a binary.
@@ -232,4 +232,67 @@ fn write_parts(
     put_zeros(out, end, start - end);
     wire::copy_at(out, start, image);
     put_zeros(out, stop, size - stop);
+}
+
+// 16 of the first n pairs of a list that starts with these 32.
+fn bad_pairs(buf: &[u8], pairs: [StringPair; 32], n: usize) -> bool
+    ensures { λ r. ⌜ r ≡ badPairs (now (buf .entry)) (listed pairs n) ⌝ }
+{
+    if 32 < n {
+        return true;
+    }
+    let mut i = 0;
+    while i < n {
+        let pair = pairs[i];
+        if bad_pair(buf, pair) {
+            return true;
+        }
+        i += 1;
+    }
+    offload_binary::bad_keys(buf, pairs, n)
+}
+
+fn refused(number: usize) -> Written
+    ensures { λ r. ⌜ r ≡ record { number = number; place = 0; len = 0 } ⌝ }
+{
+    Written {
+        number,
+        place: 0,
+        len: 0,
+    }
+}
+
+// The work, over plain data: the first 32 pairs by value, and how many the list has.
+fn write_listed(
+    tags: Tags,
+    image: &[u8],
+    pairs: [StringPair; 32],
+    n: usize,
+    buf: &[u8],
+    out: &mut [u8],
+) -> Written
+    ensures { λ r. ⌜ (r ≡ write tags (now (image .entry)) (listed pairs n) (now (buf .entry)) (now (out .entry)) .answer) × (now (out .exit) ≡ write tags (now (image .entry)) (listed pairs n) (now (buf .entry)) (now (out .entry)) .out) ⌝ }
+{
+    if offload_binary::bad_kinds(tags.image_kind, tags.offload_kind) {
+        return refused(15);
+    }
+    if bad_pairs(buf, pairs, n) {
+        return refused(16);
+    }
+    if 1073741824 < image.len() {
+        return refused(11);
+    }
+    let at = places(buf, pairs, n, image.len());
+    if 1073741824 < at.size {
+        return refused(11);
+    }
+    if out.len() < at.size {
+        return refused(12);
+    }
+    write_parts(out, tags, image, pairs, n, buf, at);
+    Written {
+        number: 0,
+        place: 0,
+        len: at.size,
+    }
 }
