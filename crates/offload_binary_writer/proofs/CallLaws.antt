@@ -42,8 +42,8 @@ module _ (buf : List ℕ) (pairs : List StringPair) (n : ℕ) where
   pairs-is =
       rw (length-listed pairs n)
       (ap₂ (λ x y. ltb 32 n || x || y)
-        (any-same n (λ i. badPair buf (getD l i noPair)) (λ i. badPair buf (getD pairs i noPair)) (λ i h. ap (badPair buf) (listed-at i h)))
-        (any-same n _ _ (earlier-same same n (keyIn buf l) (keyIn buf pairs) (λ i h. ap (λ p. bytesAt buf (p .key)) (listed-at i h)))))
+      (any-same n (λ i. badPair buf (getD l i noPair)) (λ i. badPair buf (getD pairs i noPair)) (λ i h. ap (badPair buf) (listed-at i h)))
+      (any-same n _ _ (earlier-same same n (keyIn buf l) (keyIn buf pairs) (λ i h. ap (λ p. bytesAt buf (p .key)) (listed-at i h)))))
 
   pub pairs-many : 32 < n → true ≡ badPairs buf l
   pairs-many h = rw (pairs-is, lt-ltb _ _ h)
@@ -148,6 +148,7 @@ module _ (tags : Tags) (image : List ℕ) (l : List StringPair) (buf out : List 
             let w = sym (back 0 (stop-none h)) in
             let e : size ≡ length (written g) = s ∙ sym (length-written g) in
             let n = length-written g in
-            let z : 0 + length (written g) ≡ length (written g) = omega arith in
-            (ap (λ m. record { number = 0; place = 0; len = m }) e ∙ ap (λ o. o .answer) w,
-            q ∙ overwrite-in out 0 (written g) (omega arith) ∙ ap (λ m. written g ++ drop m out) z ∙ ap (λ o. o .out) w)
+            let z : 0 + length (written g) ≡ length (written g) = omega arith in (
+              ap (λ m. record { number = 0; place = 0; len = m }) e ∙ ap (λ o. o .answer) w,
+              q ∙ overwrite-in out 0 (written g) (omega arith) ∙ ap (λ m. written g ++ drop m out) z ∙ ap (λ o. o .out) w,
+            )

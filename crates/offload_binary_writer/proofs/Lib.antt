@@ -3,3 +3,4 @@ pub mod TextLaws
 pub mod WriteLaws
 pub mod WholeLaws
 pub mod CallLaws
+pub mod Gathered
