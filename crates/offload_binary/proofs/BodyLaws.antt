@@ -17,7 +17,8 @@ use Rattle.wire.proofs.FirstLaws.{any-same, none-any}
 use Rattle.wire.proofs.StopLaws.{earlier-same}
 use Rattle.offload_binary.specs.Lists.{tab, slots}
 use Rattle.offload_binary.specs.Binary.{bytesAt, run, entryOf, keyAt, textAt, stringAt, pair, key, badKinds, badTable, badString, badPair, badStrings, badImage, bodyStop, noPair, handsBack, handed, refused, answerBy}
-use Rattle.offload_binary.specs.Code.{noneRead, pairsRead, readPairs, keyIn, badKeys, readStrings, bodyAnswer}
+use Rattle.offload_binary.specs.Code.{noneRead, pairsRead, readPairs, readStrings, bodyAnswer}
+use Rattle.offload_binary.specs.Binary.{keyIn, badKeys}
 use Rattle.offload_binary.specs.declared.StringPair.{StringPair}
 use Rattle.offload_binary.specs.declared.Entry.{Entry}
 use Rattle.offload_binary.specs.declared.ReadPairs.{ReadPairs}

@@ -34,7 +34,7 @@ unfolding tab
 tab-getD [] d = refl
 tab-getD (x ∷ l) d = ap (λ m. x ∷ m) (tab-getD l d)
 
-tab-snoc : {A : Type 0} (n : ℕ) (f : ℕ → A) → tab (suc n) f ≡ tab n f ++ (f n ∷ [])
+pub tab-snoc : {A : Type 0} (n : ℕ) (f : ℕ → A) → tab (suc n) f ≡ tab n f ++ (f n ∷ [])
 unfolding tab
 tab-snoc zero f = refl
 tab-snoc (suc n) f = ap (λ l. f zero ∷ l) (tab-snoc n (λ i. f (suc i)))

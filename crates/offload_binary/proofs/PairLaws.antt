@@ -13,7 +13,8 @@ use Rattle.wire.proofs.Bools.{neither-or}
 use Rattle.wire.proofs.FirstLaws.{any-some, any-none}
 use Rattle.offload_binary.specs.Lists.{tab, slots}
 use Rattle.offload_binary.specs.Binary.{run, keyAt, textAt, stringAt, pair, badString, badPair, noPair}
-use Rattle.offload_binary.specs.Code.{stringLen, readPair, readPairs, keyIn, badKeys}
+use Rattle.offload_binary.specs.Code.{stringLen, readPair, readPairs}
+use Rattle.offload_binary.specs.Binary.{keyIn, badKeys}
 use Rattle.offload_binary.specs.declared.StringPair.{StringPair}
 use Rattle.offload_binary.specs.declared.ReadPair.{ReadPair}
 use Rattle.offload_binary.proofs.StringLaws.{StringIs, len-bad, len-good}

@@ -23,6 +23,13 @@ use Rattle.offload_binary.specs.declared.Answer.{Answer}
 unfoldable pub bytesAt : List ℕ → Part → List ℕ
 bytesAt s p = take (p .len) (drop (p .start) s)
 
+-- the part of no bytes, and the pair of such parts
+abbrev pub noPart : Part
+noPart = record { start = 0; len = 0 }
+
+abbrev pub noPair : StringPair
+noPair = record { key = noPart; text = noPart }
+
 -- how many bytes stand before the first zero byte: all, where there is none
 unfoldable pub run : List ℕ → ℕ
 run l = first (length l) (λ i. eqb (getD l i 0) 0)
@@ -126,13 +133,17 @@ binaryStop b =
     ⨾ stopIf 14 (badSpan b)
     ⨾ bodyStop (own b) (entryOf (own b) (entryAt b))
 
+-- ---- keys of pairs that name parts of s, as a reader and a writer hold them
+
+-- the key of pair i
+unfoldable pub keyIn : List ℕ → List StringPair → ℕ → List ℕ
+keyIn s pairs i = bytesAt s (getD pairs i noPair .key)
+
+-- "more than 32" of them, or "equal keys" among the first n
+unfoldable pub badKeys : List ℕ → List StringPair → ℕ → Bool
+badKeys s pairs n = ltb 32 n || anyBelow n (earlier same (keyIn s pairs))
+
 -- ---- what a binary hands back: "first byte, size, kinds, flags, place and length of the image and of each key and text, places counted from the strip's first byte"
-
-abbrev pub noPart : Part
-noPart = record { start = 0; len = 0 }
-
-abbrev pub noPair : StringPair
-noPair = record { key = noPart; text = noPart }
 
 -- 0 in every number
 abbrev pub noBinary : Binary

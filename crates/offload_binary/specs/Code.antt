@@ -30,14 +30,6 @@ pairsRead from o table n = record { bad = false; pairs = slots 32 noPair (tab n 
 unfoldable pub readPairs : ℕ → List ℕ → ℕ → ℕ → ReadPairs
 readPairs from o table n = cond (anyBelow n (badPair o table)) noneRead (pairsRead from o table n)
 
--- the key of pair i of an array of them
-unfoldable pub keyIn : List ℕ → List StringPair → ℕ → List ℕ
-keyIn s pairs i = bytesAt s (getD pairs i noPair .key)
-
--- more than 32 pairs, or two of the first n have equal keys
-unfoldable pub badKeys : List ℕ → List StringPair → ℕ → Bool
-badKeys s pairs n = ltb 32 n || anyBelow n (earlier same (keyIn s pairs))
-
 -- 16, and where it is not given the pairs
 unfoldable pub readStrings : ℕ → List ℕ → ℕ → ℕ → ReadPairs
 readStrings from o table count = cond (badStrings o table count) noneRead (pairsRead from o table count)

@@ -9,7 +9,8 @@ ghost use Rattle.wire.specs.First.{anyBelow};
 ghost use Rattle.wire.specs.Stop.{earlier};
 ghost use Rattle.offload_binary.specs.Lists.{slots};
 ghost use Rattle.offload_binary.specs.Binary.{bytesAt, run, noBinary, noPair, badHead, badSpan, badKinds, badTable, badImage, entryOf, binaryAt, refused as refusal};
-ghost use Rattle.offload_binary.specs.Code.{stringLen, readPair, readPairs, keyIn, badKeys, readStrings, bodyAnswer};
+ghost use Rattle.offload_binary.specs.Code.{stringLen, readPair, readPairs, readStrings, bodyAnswer};
+ghost use Rattle.offload_binary.specs.Binary.{keyIn, badKeys};
 
 // A part of lent bytes: the place of its first byte, and its length.
 pub struct Part {
@@ -53,7 +54,7 @@ pub struct Answer {
 }
 
 // The first four bytes of a binary.
-const MAGIC: [u8; 4] = [0x10, 0xFF, 0x10, 0xAD];
+pub const MAGIC: [u8; 4] = [0x10, 0xFF, 0x10, 0xAD];
 
 // The bytes that a part names, as far as they lie inside.
 pub fn bytes_at(s: &[u8], part: Part) -> &[u8]

@@ -6,7 +6,7 @@ use mathlib.Core.Bool.{false}
 use borrow.Author.Count.{below-more}
 use Rattle.wire.specs.Bytes.{same}
 use Rattle.wire.specs.Stop.{earlier}
-use Rattle.offload_binary.specs.Code.{keyIn}
+use Rattle.offload_binary.specs.Binary.{keyIn}
 use Rattle.offload_binary.proofs.PairLaws.{keys-many, keys-equal, keys-differ}
 use Rattle.offload_binary.proofs.bad_keys.Statement.{statement}
 use Rattle.offload_binary.proofs.bad_keys.Tie as tie

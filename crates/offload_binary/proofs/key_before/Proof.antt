@@ -7,7 +7,7 @@ use borrow.Author.Count.{below-more}
 use Rattle.wire.specs.Bytes.{same}
 use Rattle.wire.specs.Stop.{earlier}
 use Rattle.wire.proofs.FirstLaws.{any-some, any-none}
-use Rattle.offload_binary.specs.Code.{keyIn}
+use Rattle.offload_binary.specs.Binary.{keyIn}
 use Rattle.offload_binary.proofs.key_before.Statement.{statement}
 use Rattle.offload_binary.proofs.key_before.Tie as tie
 

@@ -1,0 +1,6 @@
+pub mod PartLaws
+pub mod TextLaws
+pub mod WriteLaws
+pub mod WholeLaws
+pub mod CallLaws
+pub mod Gathered

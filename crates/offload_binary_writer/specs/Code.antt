@@ -1,0 +1,45 @@
+-- What the private functions of the writer ensure. No public promise rests on these. Definitions only.
+use Prim.Native.Nat.{ℕ, _+_, _*_, _/_, _%_, _≤_}
+use mathlib.Core.Path.{_≡_}
+use mathlib.Core.Bool.{Bool, cond}
+use mathlib.Core.List.{List, [], _∷_, _++_}
+use lib.ListN.{length, getD, take, replicate}
+use lib.Dec.{eqb}
+use Rattle.offload_binary.specs.Lists.{tab}
+use Rattle.offload_binary.specs.Binary.{magic, bytesAt, noPair}
+use Rattle.offload_binary.specs.Contents.{Field, _∶_, fieldBytes, stringBytes, up8}
+use Rattle.offload_binary.specs.declared.Part.{Part}
+use Rattle.offload_binary.specs.declared.StringPair.{StringPair}
+use Rattle.offload_binary_writer.specs.declared.Tags.{Tags}
+use Rattle.offload_binary_writer.specs.declared.Layout.{Layout}
+
+-- the keys and texts of an array of pairs, one after another: their parts, and their bytes
+unfoldable pub partIn : List StringPair → ℕ → Part
+partIn pairs j = cond (eqb (j % 2) 0) (getD pairs (j / 2) noPair .key) (getD pairs (j / 2) noPair .text)
+
+unfoldable pub textIn : List ℕ → List StringPair → ℕ → List ℕ
+textIn buf pairs j = bytesAt buf (partIn pairs j)
+
+-- a list's first 32 pairs in an array, and the list of n pairs that starts with an array's
+unfoldable pub gathered : List StringPair → List StringPair
+gathered pairs = take 32 (pairs ++ replicate 32 noPair)
+
+unfoldable pub listed : List StringPair → ℕ → List StringPair
+listed array n = tab n (λ i. getD array i noPair)
+
+-- where the parts of a binary stand: n pairs with the strings of f, one after another, and an image of `len` bytes
+pub record LayoutIs (f : ℕ → List ℕ) (n len : ℕ) (at : Layout) : Type 0 where
+  pub strings-is : at .strings ≡ 72 + 16 * n
+  pub end-is : at .end ≡ at .strings + length (stringBytes (tab (2 * n) f))
+  pub image-is : at .image ≡ up8 (at .end)
+  pub stop-is : at .stop ≡ at .image + len
+  pub size-is : at .size ≡ up8 (at .stop)
+  pub short : at .end ≤ 20000
+
+-- header and entry, number by number
+unfoldable pub headerBytes : ℕ → List ℕ
+headerBytes size = magic ++ fieldBytes (4 ∶ 1 ∷ 8 ∶ size ∷ 8 ∶ 32 ∷ 8 ∶ 40 ∷ [])
+
+unfoldable pub entryFields : Tags → ℕ → ℕ → ℕ → List Field
+entryFields tags count image len =
+    2 ∶ tags .«image_kind» ∷ 2 ∶ tags .«offload_kind» ∷ 4 ∶ tags .flags ∷ 8 ∶ 72 ∷ 8 ∶ count ∷ 8 ∶ image ∷ 8 ∶ len ∷ []

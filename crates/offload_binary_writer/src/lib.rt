@@ -1,0 +1,366 @@
+// Writes one of LLVM's offload binaries over a lent output.
+use offload_binary::Part;
+use offload_binary::StringPair;
+ghost use mathlib.Core.Path.{_≡_};
+ghost use mathlib.Core.List.{[], _∷_, _++_};
+ghost use Prim.Native.Nat.{ℕ, _+_, _*_, _<_, _≤_};
+ghost use lib.ListN.{length, getD, set, replicate};
+ghost use Rattle.offload_binary.specs.Binary.{noPair};
+ghost use Rattle.wire.specs.Bytes.{overwrite};
+ghost use Rattle.offload_binary.specs.Lists.{tab};
+ghost use Rattle.offload_binary.specs.Contents.{fieldBytes, offsets, stringBytes, up8, written};
+ghost use Rattle.offload_binary_writer.specs.Writer.{badPart, badPair, badPairs, given, write};
+ghost use Rattle.offload_binary_writer.specs.Code.{partIn, textIn, gathered, listed, LayoutIs, headerBytes, entryFields};
+
+// The kinds and the flags of a binary.
+pub struct Tags {
+    pub image_kind: u64,
+    pub offload_kind: u64,
+    pub flags: u32,
+}
+
+// OK and the length written; or a refusal, place 0, and nothing written.
+pub struct Written {
+    pub number: usize,
+    pub place: usize,
+    pub len: usize,
+}
+
+// Where the parts of a binary stand: its strings from `strings` to `end`, its image from `image` to `stop`.
+struct Layout {
+    strings: usize,
+    end: usize,
+    image: usize,
+    stop: usize,
+    size: usize,
+}
+
+// 16 of a part of the string buffer: outside it, over 256 bytes, or with a zero byte inside.
+fn bad_part(buf: &[u8], part: Part) -> bool
+    ensures { λ r. ⌜ r ≡ badPart (now (buf .entry)) part ⌝ }
+{
+    let start = part.start;
+    let len = part.len;
+    if offload_binary::passes(buf.len(), start, len) {
+        return true;
+    }
+    if 256 < len {
+        return true;
+    }
+    let text = offload_binary::bytes_at(buf, part);
+    offload_binary::before_zero(text) < text.len()
+}
+
+// 16 of a pair.
+fn bad_pair(buf: &[u8], pair: StringPair) -> bool
+    ensures { λ r. ⌜ r ≡ badPair (now (buf .entry)) pair ⌝ }
+{
+    let key = pair.key;
+    let text = pair.text;
+    if bad_part(buf, key) {
+        return true;
+    }
+    if bad_part(buf, text) {
+        return true;
+    }
+    key.len == 0
+}
+
+// The part that holds string j: the key of a pair, then its text.
+fn part_in(pairs: [StringPair; 32], j: usize) -> Part
+    requires { ⌜ j < 64 ⌝ }
+    ensures { λ r. ⌜ r ≡ partIn pairs j ⌝ }
+{
+    let pair = pairs[j / 2];
+    if j % 2 == 0 {
+        return pair.key;
+    }
+    pair.text
+}
+
+fn text_in<'a>(buf: &'a [u8], pairs: [StringPair; 32], j: usize) -> &'a [u8]
+    requires { ⌜ j < 64 ⌝ }
+    ensures { λ r. ⌜ now r ≡ textIn (now (buf .entry)) pairs j ⌝ }
+{
+    offload_binary::bytes_at(buf, part_in(pairs, j))
+}
+
+// How long the first m strings are with their zero bytes.
+fn texts_len(buf: &[u8], pairs: [StringPair; 32], m: usize) -> usize
+    requires { ⌜ (m ≤ 64) × ((j : ℕ) → j < m → length (textIn (now buf) pairs j) ≤ 256) ⌝ }
+    ensures { λ r. ⌜ (r ≡ length (stringBytes (tab m (textIn (now (buf .entry)) pairs)))) × (r ≤ 257 * m) ⌝ }
+{
+    let mut at = 0;
+    let mut j = 0;
+    while j < m {
+        let text = text_in(buf, pairs, j);
+        at = at + text.len() + 1;
+        j += 1;
+    }
+    at
+}
+
+// The next multiple of 8.
+fn up_to_8(n: usize) -> usize
+    requires { ⌜ n ≤ 4294967296 ⌝ }
+    ensures { λ r. ⌜ r ≡ up8 n ⌝ }
+{
+    (n + 7) / 8 * 8
+}
+
+// n zero bytes at `at`.
+fn put_zeros(out: &mut [u8], at: usize, n: usize)
+    requires { ⌜ n ≤ 8 ⌝ }
+    ensures { λ _. ⌜ now (out .exit) ≡ overwrite (now (out .entry)) at (replicate n 0) ⌝ }
+{
+    let zeros = [0u8; 8];
+    wire::copy_at(
+        out,
+        at,
+        offload_binary::bytes_at(&zeros, Part { start: 0, len: n }),
+    );
+}
+
+// A string and its zero byte at `at`.
+fn put_text(out: &mut [u8], at: usize, text: &[u8])
+    requires { ⌜ at + length (now text) + 1 ≤ length (now out) ⌝ }
+    ensures { λ _. ⌜ now (out .exit) ≡ overwrite (now (out .entry)) at (now (text .entry) ++ (0 ∷ [])) ⌝ }
+{
+    wire::copy_at(out, at, text);
+    put_zeros(out, at + text.len(), 1);
+}
+
+// The header, at 0.
+fn write_header(out: &mut [u8], size: usize)
+    requires { ⌜ 72 ≤ length (now out) ⌝ }
+    ensures { λ _. ⌜ now (out .exit) ≡ overwrite (now (out .entry)) 0 (headerBytes size) ⌝ }
+{
+    let magic = offload_binary::MAGIC;
+    wire::copy_at(out, 0, &magic);
+    wire::put_word4(out, 4, 1);
+    wire::put_word8(out, 8, size as u64);
+    wire::put_word8(out, 16, 32);
+    wire::put_word8(out, 24, 40);
+}
+
+// The entry, at 32.
+fn write_entry(out: &mut [u8], tags: Tags, count: usize, image: usize, len: usize)
+    requires { ⌜ 72 ≤ length (now out) ⌝ }
+    ensures { λ _. ⌜ now (out .exit) ≡ overwrite (now (out .entry)) 32 (fieldBytes (entryFields tags count image len)) ⌝ }
+{
+    let flags = tags.flags as u64;
+    wire::put_word2(out, 32, tags.image_kind);
+    wire::put_word2(out, 34, tags.offload_kind);
+    wire::put_word4(out, 36, flags);
+    wire::put_word8(out, 40, 72);
+    wire::put_word8(out, 48, count as u64);
+    wire::put_word8(out, 56, image as u64);
+    wire::put_word8(out, 64, len as u64);
+}
+
+// The offsets of the first m strings, at 72: the strings start at `first`.
+fn write_offsets(out: &mut [u8], buf: &[u8], pairs: [StringPair; 32], m: usize, first: usize)
+    requires { ⌜ (72 + 8 * m ≤ length (now out)) × ((m ≤ 64) × ((first ≤ 1000) × ((j : ℕ) → j < m → length (textIn (now buf) pairs j) ≤ 256))) ⌝ }
+    ensures { λ _. ⌜ now (out .exit) ≡ overwrite (now (out .entry)) 72 (fieldBytes (offsets first (tab m (textIn (now (buf .entry)) pairs)))) ⌝ }
+{
+    let mut at = first;
+    let mut j = 0;
+    while j < m {
+        let text = text_in(buf, pairs, j);
+        let place = 72 + 8 * j;
+        wire::put_word8(out, place, at as u64);
+        at = at + text.len() + 1;
+        j += 1;
+    }
+}
+
+// The first m strings with their zero bytes, at `first`.
+fn write_texts(out: &mut [u8], buf: &[u8], pairs: [StringPair; 32], m: usize, first: usize)
+    requires { ⌜ (first + length (stringBytes (tab m (textIn (now buf) pairs))) ≤ length (now out)) × (m ≤ 64) ⌝ }
+    ensures { λ _. ⌜ now (out .exit) ≡ overwrite (now (out .entry)) first (stringBytes (tab m (textIn (now (buf .entry)) pairs))) ⌝ }
+{
+    let mut at = first;
+    let mut j = 0;
+    while j < m {
+        let text = text_in(buf, pairs, j);
+        put_text(out, at, text);
+        at = at + text.len() + 1;
+        j += 1;
+    }
+}
+
+// Where the parts of a binary with the first n pairs and an image of `len` bytes stand.
+fn places(buf: &[u8], pairs: [StringPair; 32], n: usize, len: usize) -> Layout
+    requires { ⌜ (n ≤ 32) × ((len ≤ 1073741824) × ((j : ℕ) → j < 2 * n → length (textIn (now buf) pairs j) ≤ 256)) ⌝ }
+    ensures { λ r. ⌜ LayoutIs (textIn (now (buf .entry)) pairs) n len r ⌝ }
+{
+    let strings = 72 + 16 * n;
+    let end = strings + texts_len(buf, pairs, 2 * n);
+    let image = up_to_8(end);
+    let stop = image + len;
+    let size = up_to_8(stop);
+    Layout {
+        strings,
+        end,
+        image,
+        stop,
+        size,
+    }
+}
+
+// The whole binary, from the start of the output on.
+fn write_parts(
+    out: &mut [u8],
+    tags: Tags,
+    image: &[u8],
+    pairs: [StringPair; 32],
+    n: usize,
+    buf: &[u8],
+    at: Layout,
+)
+    requires { ⌜ (n ≤ 32) × ((LayoutIs (textIn (now buf) pairs) n (length (now image)) at) × ((at .size ≤ length (now out)) × ((j : ℕ) → j < 2 * n → length (textIn (now buf) pairs j) ≤ 256))) ⌝ }
+    ensures { λ _. ⌜ now (out .exit) ≡ overwrite (now (out .entry)) 0 (written (given tags (now (image .entry)) (listed pairs n) (now (buf .entry)))) ⌝ }
+{
+    let strings = at.strings;
+    let end = at.end;
+    let start = at.image;
+    let stop = at.stop;
+    let size = at.size;
+    write_header(out, size);
+    write_entry(out, tags, n, start, image.len());
+    write_offsets(out, buf, pairs, 2 * n, strings);
+    write_texts(out, buf, pairs, 2 * n, strings);
+    put_zeros(out, end, start - end);
+    wire::copy_at(out, start, image);
+    put_zeros(out, stop, size - stop);
+}
+
+// 16 of the first n pairs of a list that starts with these 32.
+fn bad_pairs(buf: &[u8], pairs: [StringPair; 32], n: usize) -> bool
+    ensures { λ r. ⌜ r ≡ badPairs (now (buf .entry)) (listed pairs n) ⌝ }
+{
+    if 32 < n {
+        return true;
+    }
+    let mut i = 0;
+    while i < n {
+        let pair = pairs[i];
+        if bad_pair(buf, pair) {
+            return true;
+        }
+        i += 1;
+    }
+    offload_binary::bad_keys(buf, pairs, n)
+}
+
+fn refused(number: usize) -> Written
+    ensures { λ r. ⌜ r ≡ record { number = number; place = 0; len = 0 } ⌝ }
+{
+    Written {
+        number,
+        place: 0,
+        len: 0,
+    }
+}
+
+// The work, over plain data: the first 32 pairs by value, and how many the list has.
+fn write_listed(
+    tags: Tags,
+    image: &[u8],
+    pairs: [StringPair; 32],
+    n: usize,
+    buf: &[u8],
+    out: &mut [u8],
+) -> Written
+    ensures { λ r. ⌜ (r ≡ write tags (now (image .entry)) (listed pairs n) (now (buf .entry)) (now (out .entry)) .answer) × (now (out .exit) ≡ write tags (now (image .entry)) (listed pairs n) (now (buf .entry)) (now (out .entry)) .out) ⌝ }
+{
+    if offload_binary::bad_kinds(tags.image_kind, tags.offload_kind) {
+        return refused(15);
+    }
+    if bad_pairs(buf, pairs, n) {
+        return refused(16);
+    }
+    if 1073741824 < image.len() {
+        return refused(11);
+    }
+    let at = places(buf, pairs, n, image.len());
+    if 1073741824 < at.size {
+        return refused(11);
+    }
+    if out.len() < at.size {
+        return refused(12);
+    }
+    write_parts(out, tags, image, pairs, n, buf, at);
+    Written {
+        number: 0,
+        place: 0,
+        len: at.size,
+    }
+}
+
+// How many pairs the list has.
+fn pair_count(pairs: &[StringPair]) -> usize
+    ensures { λ r. ⌜ r ≡ length (now (pairs .entry)) ⌝ }
+{
+    pairs.len()
+}
+
+// Pair i of the list, or the pair of no bytes past its end.
+fn pair_or_none(pairs: &[StringPair], i: usize) -> StringPair
+    ensures { λ r. ⌜ r ≡ getD (now (pairs .entry)) i noPair ⌝ }
+{
+    if i < pairs.len() {
+        pairs[i]
+    } else {
+        StringPair {
+            key: Part { start: 0, len: 0 },
+            text: Part { start: 0, len: 0 },
+        }
+    }
+}
+
+fn no_pairs() -> [StringPair; 32]
+    ensures { λ r. ⌜ r ≡ replicate 32 noPair ⌝ }
+{
+    let none = StringPair {
+        key: Part { start: 0, len: 0 },
+        text: Part { start: 0, len: 0 },
+    };
+    [none; 32]
+}
+
+// The array with x at place i.
+fn put_pair(a: [StringPair; 32], i: usize, x: StringPair) -> [StringPair; 32]
+    requires { ⌜ i < 32 ⌝ }
+    ensures { λ r. ⌜ r ≡ set a i x ⌝ }
+{
+    let mut b = a;
+    b[i] = x;
+    b
+}
+
+// The first 32 pairs of the list, and pairs of no bytes in the places that are left.
+fn gather(pairs: &[StringPair]) -> [StringPair; 32]
+    ensures { λ r. ⌜ r ≡ gathered (now (pairs .entry)) ⌝ }
+{
+    let mut a = no_pairs();
+    let mut i = 0;
+    while i < 32 {
+        a = put_pair(a, i, pair_or_none(pairs, i));
+        i += 1;
+    }
+    a
+}
+
+// Writes a binary with these kinds and flags, this image, and the strings that the pairs name parts of `strings` for.
+pub fn write_binary(
+    tags: Tags,
+    image: &[u8],
+    pairs: &[StringPair],
+    strings: &[u8],
+    out: &mut [u8],
+) -> Written
+    ensures { λ r. ⌜ (r ≡ write tags (now (image .entry)) (now (pairs .entry)) (now (strings .entry)) (now (out .entry)) .answer) × (now (out .exit) ≡ write tags (now (image .entry)) (now (pairs .entry)) (now (strings .entry)) (now (out .entry)) .out) ⌝ }
+{
+    write_listed(tags, image, gather(pairs), pair_count(pairs), strings, out)
+}
