@@ -1,11 +1,16 @@
 // The calls that write bundles: normalising, and the bundle writer.
 ghost use mathlib.Core.Path.{_≡_};
-ghost use Prim.Native.Nat.{_+_, _<_, _≤_};
+ghost use Prim.Native.Nat.{ℕ, _+_, _<_, _≤_};
+ghost use mathlib.Core.List.{[]};
 ghost use lib.ListN.{length, getD, take, drop};
 ghost use Rattle.wire.specs.Bytes.{overwrite};
 ghost use Rattle.wire.specs.Order.{insertBy, sortBy};
-ghost use Rattle.bundle.specs.Records.{text};
-ghost use Rattle.normal_form.specs.Code.{upTo};
+ghost use Rattle.wire.specs.Lists.{total};
+ghost use Rattle.bundle.specs.Lists.{tab};
+ghost use Rattle.bundle.specs.Records.{recordAt, text};
+ghost use Rattle.bundle.specs.Layout.{rowBytes, table, images, packedEnd, packedLength, encode};
+ghost use Rattle.bundle.specs.Normal.{roomStop, answer, over, output};
+ghost use Rattle.normal_form.specs.Code.{inOrder, upTo, Filled, Placed, Measured, sizeOf, idOf, rowAfter};
 use bundle::EntryRecord;
 use bundle::Written;
 
@@ -43,4 +48,173 @@ fn sorted(texts: &[u8], lens: &[usize], n: usize) -> [usize; 64]
         sift(texts, lens, n, &mut order, i);
     }
     order
+}
+
+// ---- lengths
+
+// Where the table of some entries ends, and the length of their packed form.
+struct Lengths {
+    end: usize,
+    all: usize,
+}
+
+// The lengths of n entries. A length above the limit is one more than the limit: no sum can wrap.
+fn measure(rows: [EntryRecord; 64], lens: &[usize], n: usize) -> Lengths
+    requires { ⌜ (n ≤ 64) × (n ≤ length (now lens)) × ((k : ℕ) → k < n → getD (now lens) k 0 ≤ 256) ⌝ }
+    ensures { λ r. ⌜ Measured rows (now (lens .entry)) n (r .end) (r .all) ⌝ }
+{
+    let mut end: usize = 32;
+    let mut all: usize = 32;
+    let mut i: usize = 0;
+    while i < n {
+        let r = rows[i];
+        let size = r.image_len;
+        if 1073741824 < size {
+            return Lengths {
+                end: 0,
+                all: 1073741825,
+            };
+        }
+        let row = 24 + lens[i];
+        end = end + row;
+        all = all + (row + size);
+        if 1073741824 < all {
+            return Lengths {
+                end: 0,
+                all: 1073741825,
+            };
+        }
+        i += 1;
+    }
+    Lengths { end: end, all: all }
+}
+
+// ---- the bytes
+
+// A row at `at`.
+fn put_row(out: &mut [u8], at: usize, offset: usize, size: usize, id: &[u8])
+    requires { ⌜ at + 24 + length (now id) ≤ length (now out) ⌝ }
+    ensures { λ _. ⌜ now (out .exit) ≡ overwrite (now (out .entry)) at (rowBytes (record { offset = offset; size = size; id = now (id .entry) })) ⌝ }
+{
+    wire::put_word8(out, at, offset as u64);
+    wire::put_word8(out, at + 8, size as u64);
+    wire::put_word8(out, at + 16, id.len() as u64);
+    wire::copy_at(out, at + 24, id);
+}
+
+// The rows of n entries in an order, from 32 on: the images are to lie one after another from `base` on.
+fn put_table(
+    rows: [EntryRecord; 64],
+    texts: &[u8],
+    lens: &[usize],
+    n: usize,
+    order: [usize; 64],
+    base: usize,
+    out: &mut [u8],
+)
+    requires { ⌜ (n ≤ 64) × ((k : ℕ) → k < n → getD order k 0 < 64) ⌝ }
+    requires { ⌜ (32 + total (λ k. 24 + length (idOf (now texts) (now lens) order k)) (upTo n) ≤ length (now out)) × (base + total (sizeOf rows order) (upTo n) ≤ length (now out)) ⌝ }
+    ensures { λ _. ⌜ now (out .exit) ≡ overwrite (now (out .entry)) 32 (table (tab n (rowAfter rows (now (texts .entry)) (now (lens .entry)) order base))) ⌝ }
+{
+    let mut i: usize = 0;
+    let mut at: usize = 32;
+    let mut offset = base;
+    while i < n {
+        let k = order[i];
+        let r = rows[k];
+        let size = r.image_len;
+        let id = bundle::slot(texts, lens, k);
+        put_row(out, at, offset, size, id);
+        at = at + (24 + id.len());
+        offset = offset + size;
+        i += 1;
+    }
+}
+
+// The images of n entries in an order, one after another from `base` on.
+fn put_images(
+    src: &[u8],
+    rows: [EntryRecord; 64],
+    n: usize,
+    order: [usize; 64],
+    base: usize,
+    out: &mut [u8],
+)
+    requires { ⌜ (n ≤ 64) × ((k : ℕ) → k < n → (getD order k 0 < 64) × (recordAt rows (getD order k 0) .«image_start» + sizeOf rows order k ≤ length (now src))) ⌝ }
+    requires { ⌜ base + total (sizeOf rows order) (upTo n) ≤ length (now out) ⌝ }
+    ensures { λ _. ⌜ now (out .exit) ≡ overwrite (now (out .entry)) base (images (inOrder (now (src .entry)) rows [] [] n order)) ⌝ }
+{
+    let mut i: usize = 0;
+    let mut at = base;
+    while i < n {
+        let k = order[i];
+        let r = rows[k];
+        let start = r.image_start;
+        let size = r.image_len;
+        wire::copy_at(out, at, &src[start..start + size]);
+        at = at + size;
+        i += 1;
+    }
+}
+
+// The packed form of n entries in an order, whose table ends at `base`, over `out`.
+fn put_bundle(
+    src: &[u8],
+    rows: [EntryRecord; 64],
+    texts: &[u8],
+    lens: &[usize],
+    n: usize,
+    order: [usize; 64],
+    base: usize,
+    out: &mut [u8],
+)
+    requires { ⌜ Placed (now src) rows (now texts) (now lens) n order ⌝ }
+    requires { ⌜ (base ≡ packedEnd (inOrder (now src) rows (now texts) (now lens) n order)) × (packedLength (inOrder (now src) rows (now texts) (now lens) n order) ≤ length (now out)) ⌝ }
+    ensures { λ _. ⌜ now (out .exit) ≡ over (encode (inOrder (now (src .entry)) rows (now (texts .entry)) (now (lens .entry)) n order)) (now (out .entry)) ⌝ }
+{
+    wire::copy_at(out, 0, b"__CLANG_OFFLOAD_BUNDLE__");
+    wire::put_word8(out, 24, n as u64);
+    put_table(rows, texts, lens, n, order, base, out);
+    put_images(src, rows, n, order, base, out);
+}
+
+// A refusal of a call that writes.
+fn refused(number: usize, place: usize) -> Written
+    ensures { λ r. ⌜ r ≡ record { number = number; place = place; length = 0 } ⌝ }
+{
+    Written {
+        number: number,
+        place: place,
+        length: 0,
+    }
+}
+
+// The packed form of n entries in an order over `out`; 11 BIG, 12 ROOM.
+fn write_entries(
+    src: &[u8],
+    rows: [EntryRecord; 64],
+    texts: &[u8],
+    lens: &[usize],
+    n: usize,
+    order: [usize; 64],
+    out: &mut [u8],
+) -> Written
+    requires { ⌜ Placed (now src) rows (now texts) (now lens) n order ⌝ }
+    ensures { λ r. ⌜ r ≡ answer (roomStop (packedLength (inOrder (now (src .entry)) rows (now (texts .entry)) (now (lens .entry)) n order)) (length (now (out .entry)))) (packedLength (inOrder (now (src .entry)) rows (now (texts .entry)) (now (lens .entry)) n order)) ⌝ }
+    ensures { λ _. ⌜ now (out .exit) ≡ output (roomStop (packedLength (inOrder (now (src .entry)) rows (now (texts .entry)) (now (lens .entry)) n order)) (length (now (out .entry)))) (encode (inOrder (now (src .entry)) rows (now (texts .entry)) (now (lens .entry)) n order)) (now (out .entry)) ⌝ }
+{
+    let m = measure(rows, lens, n);
+    let all = m.all;
+    if 1073741824 < all {
+        return refused(11, 0);
+    }
+    if out.len() < all {
+        return refused(12, 0);
+    }
+    put_bundle(src, rows, texts, lens, n, order, m.end, out);
+    Written {
+        number: 0,
+        place: 0,
+        length: all,
+    }
 }
