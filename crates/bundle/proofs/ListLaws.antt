@@ -43,3 +43,9 @@ unfolding tab
 tab-take f d zero l h = refl
 tab-take f d (suc n) [] h = absurd (omega arith)
 tab-take f d (suc n) (x ∷ l) h = ap (λ r. f x ∷ r) (tab-take f d n l (omega arith))
+
+pub take-tab : {A : Type 0} (i n : ℕ) (f : ℕ → A) → i ≤ n → take i (tab n f) ≡ tab i f
+unfolding tab
+take-tab zero n f h = refl
+take-tab (suc i) zero f h = absurd (omega arith)
+take-tab (suc i) (suc n) f h = ap (λ l. f zero ∷ l) (take-tab i n (λ k. f (suc k)) (omega arith))

@@ -1,3 +1,4 @@
 pub mod OrderLaws
 pub mod SumLaws
 pub mod WriteLaws
+pub mod EncodeLaws
