@@ -2,3 +2,5 @@ pub mod OrderLaws
 pub mod SumLaws
 pub mod WriteLaws
 pub mod EncodeLaws
+pub mod GivenLaws
+pub mod NormaliseLaws

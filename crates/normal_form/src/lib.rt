@@ -6,10 +6,11 @@ ghost use lib.ListN.{length, getD, take, drop};
 ghost use Rattle.wire.specs.Bytes.{overwrite};
 ghost use Rattle.wire.specs.Order.{insertBy, sortBy};
 ghost use Rattle.wire.specs.Lists.{total};
+ghost use Rattle.entry_id.specs.Rules.{idRules};
 ghost use Rattle.bundle.specs.Lists.{tab};
 ghost use Rattle.bundle.specs.Records.{recordAt, text};
 ghost use Rattle.bundle.specs.Layout.{rowBytes, table, images, packedEnd, packedLength, encode};
-ghost use Rattle.bundle.specs.Normal.{roomStop, answer, over, output};
+ghost use Rattle.bundle.specs.Normal.{roomStop, answer, over, output, normalise, normalised};
 ghost use Rattle.normal_form.specs.Code.{inOrder, upTo, Filled, Placed, Measured, sizeOf, idOf, rowAfter};
 use bundle::EntryRecord;
 use bundle::Written;
@@ -217,4 +218,36 @@ fn write_entries(
         place: 0,
         length: all,
     }
+}
+
+// ---- normalising
+
+fn normalise_in(
+    bundle: &[u8],
+    texts: &mut [u8; 16384],
+    lens: &mut [usize; 64],
+    out: &mut [u8],
+) -> Written
+    ensures { λ r. ⌜ r ≡ normalise idRules (now (bundle .entry)) (length (now (out .entry))) ⌝ }
+    ensures { λ _. ⌜ now (out .exit) ≡ normalised idRules (now (bundle .entry)) (now (out .entry)) ⌝ }
+{
+    let e = bundle::examine(bundle, texts, lens);
+    let number = e.number;
+    if 0 < number {
+        return refused(number, e.place);
+    }
+    let n = e.count;
+    let order = sorted(texts, lens, n);
+    let rows = e.rows;
+    write_entries(bundle, rows, texts, lens, n, order, out)
+}
+
+// The normal form of a bundle, over `out`.
+pub fn normalise(bundle: &[u8], out: &mut [u8]) -> Written
+    ensures { λ r. ⌜ r ≡ normalise idRules (now (bundle .entry)) (length (now (out .entry))) ⌝ }
+    ensures { λ _. ⌜ now (out .exit) ≡ normalised idRules (now (bundle .entry)) (now (out .entry)) ⌝ }
+{
+    let mut texts = [0u8; 16384];
+    let mut lens = [0usize; 64];
+    normalise_in(bundle, &mut texts, &mut lens, out)
 }
