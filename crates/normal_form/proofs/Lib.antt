@@ -4,3 +4,4 @@ pub mod WriteLaws
 pub mod EncodeLaws
 pub mod GivenLaws
 pub mod NormaliseLaws
+pub mod WriterLaws

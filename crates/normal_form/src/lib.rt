@@ -11,6 +11,7 @@ ghost use Rattle.bundle.specs.Lists.{tab};
 ghost use Rattle.bundle.specs.Records.{recordAt, text};
 ghost use Rattle.bundle.specs.Layout.{rowBytes, table, images, packedEnd, packedLength, encode};
 ghost use Rattle.bundle.specs.Normal.{roomStop, answer, over, output, normalise, normalised};
+ghost use Rattle.normal_form.specs.Writer.{write, writtenTo};
 ghost use Rattle.normal_form.specs.Code.{inOrder, upTo, Filled, Placed, Measured, sizeOf, idOf, rowAfter};
 use bundle::EntryRecord;
 use bundle::Written;
@@ -250,4 +251,55 @@ pub fn normalise(bundle: &[u8], out: &mut [u8]) -> Written
     let mut texts = [0u8; 16384];
     let mut lens = [0usize; 64];
     normalise_in(bundle, &mut texts, &mut lens, out)
+}
+
+// ---- the bundle writer
+
+// The order in which the entries stand.
+fn as_given() -> [usize; 64]
+    ensures { λ r. ⌜ (length r ≡ 64) × ((k : ℕ) → k < 64 → getD r k 0 ≡ k) ⌝ }
+{
+    let mut order = [0usize; 64];
+    let mut k: usize = 0;
+    while k < 64 {
+        order[k] = k;
+        k += 1;
+    }
+    order
+}
+
+fn write_in(
+    records: [EntryRecord; 64],
+    n: usize,
+    ids: &[u8],
+    images: &[u8],
+    texts: &mut [u8; 16384],
+    lens: &mut [usize; 64],
+    out: &mut [u8],
+) -> Written
+    ensures { λ r. ⌜ r ≡ write idRules n records (now (ids .entry)) (now (images .entry)) (length (now (out .entry))) ⌝ }
+    ensures { λ _. ⌜ now (out .exit) ≡ writtenTo idRules n records (now (ids .entry)) (now (images .entry)) (now (out .entry)) ⌝ }
+{
+    let t = bundle::examine_records(ids, records, n, images.len(), texts, lens);
+    let number = t.number;
+    if 0 < number {
+        return refused(number, t.place);
+    }
+    let order = as_given();
+    write_entries(images, records, texts, lens, n, order, out)
+}
+
+// The bundle of the first n records, over `out`.
+fn write_list(
+    records: [EntryRecord; 64],
+    n: usize,
+    ids: &[u8],
+    images: &[u8],
+    out: &mut [u8],
+) -> Written
+    ensures { λ r. ⌜ (r ≡ write idRules n records (now (ids .entry)) (now (images .entry)) (length (now (out .entry)))) × (now (out .exit) ≡ writtenTo idRules n records (now (ids .entry)) (now (images .entry)) (now (out .entry))) ⌝ }
+{
+    let mut texts = [0u8; 16384];
+    let mut lens = [0usize; 64];
+    write_in(records, n, ids, images, &mut texts, &mut lens, out)
 }
