@@ -5,3 +5,4 @@ pub mod EncodeLaws
 pub mod GivenLaws
 pub mod NormaliseLaws
 pub mod WriterLaws
+pub mod Gathered

@@ -2,15 +2,15 @@
 use Prim.Native.Nat.{ℕ, _+_, _<_, _≤_}
 use mathlib.Core.Path.{_≡_}
 use mathlib.Core.Bool.{cond}
-use mathlib.Core.List.{List, []}
+use mathlib.Core.List.{List, [], _++_}
 use lib.Dec.{ltb}
-use lib.ListN.{length, getD}
+use lib.ListN.{length, getD, take, replicate}
 use Rattle.wire.specs.Lists.{total}
 use Rattle.bundle.specs.Lists.{tab}
 use Rattle.bundle.specs.Table.{Row}
 use Rattle.bundle.specs.Check.{limit}
 use Rattle.bundle.specs.Entry.{Entry, imageOf}
-use Rattle.bundle.specs.Records.{recordAt, rowOf, text}
+use Rattle.bundle.specs.Records.{noRecord, recordAt, rowOf, text}
 use Rattle.bundle.specs.Layout.{packedEnd, packedLength}
 use Rattle.bundle.specs.declared.EntryRecord.{EntryRecord}
 
@@ -81,3 +81,9 @@ idOf texts lens order k = text texts lens (getD order k 0)
 -- its row, the first image at `base`
 unfoldable pub rowAfter : List EntryRecord → List ℕ → List ℕ → List ℕ → ℕ → ℕ → Row
 rowAfter rows texts lens order base k = record { offset = base + total (sizeOf rows order) (upTo k); size = sizeOf rows order k; id = idOf texts lens order k }
+
+-- ---- a lent list of records
+
+-- the first 64 records of a list, filled up with the record of zeros
+abbrev pub gathered : List EntryRecord → List EntryRecord
+gathered xs = take 64 (xs ++ replicate 64 noRecord)

@@ -2,17 +2,17 @@
 ghost use mathlib.Core.Path.{_≡_};
 ghost use Prim.Native.Nat.{ℕ, _+_, _<_, _≤_};
 ghost use mathlib.Core.List.{[]};
-ghost use lib.ListN.{length, getD, take, drop};
+ghost use lib.ListN.{length, getD, take, drop, set, replicate};
 ghost use Rattle.wire.specs.Bytes.{overwrite};
 ghost use Rattle.wire.specs.Order.{insertBy, sortBy};
 ghost use Rattle.wire.specs.Lists.{total};
 ghost use Rattle.entry_id.specs.Rules.{idRules};
 ghost use Rattle.bundle.specs.Lists.{tab};
-ghost use Rattle.bundle.specs.Records.{recordAt, text};
+ghost use Rattle.bundle.specs.Records.{noRecord, recordAt, text};
 ghost use Rattle.bundle.specs.Layout.{rowBytes, table, images, packedEnd, packedLength, encode};
 ghost use Rattle.bundle.specs.Normal.{roomStop, answer, over, output, normalise, normalised};
 ghost use Rattle.normal_form.specs.Writer.{write, writtenTo};
-ghost use Rattle.normal_form.specs.Code.{inOrder, upTo, Filled, Placed, Measured, sizeOf, idOf, rowAfter};
+ghost use Rattle.normal_form.specs.Code.{inOrder, upTo, Filled, Placed, Measured, sizeOf, idOf, rowAfter, gathered};
 use bundle::EntryRecord;
 use bundle::Written;
 
@@ -302,4 +302,63 @@ fn write_list(
     let mut texts = [0u8; 16384];
     let mut lens = [0usize; 64];
     write_in(records, n, ids, images, &mut texts, &mut lens, out)
+}
+
+// How many records the list has.
+fn record_count(records: &[EntryRecord]) -> usize
+    ensures { λ r. ⌜ r ≡ length (now (records .entry)) ⌝ }
+{
+    records.len()
+}
+
+// Record i, or the record of zeros past the list's end.
+fn record_at(records: &[EntryRecord], i: usize) -> EntryRecord
+    ensures { λ r. ⌜ r ≡ getD (now (records .entry)) i noRecord ⌝ }
+{
+    if i < records.len() {
+        records[i]
+    } else {
+        EntryRecord {
+            id_start: 0,
+            id_len: 0,
+            image_start: 0,
+            image_len: 0,
+        }
+    }
+}
+
+// The record of zeros in each of 64 places.
+fn no_records() -> [EntryRecord; 64]
+    ensures { λ r. ⌜ r ≡ replicate 64 noRecord ⌝ }
+{
+    let none = EntryRecord {
+        id_start: 0,
+        id_len: 0,
+        image_start: 0,
+        image_len: 0,
+    };
+    [none; 64]
+}
+
+// The places with record x at place i.
+fn put_record(a: [EntryRecord; 64], i: usize, x: EntryRecord) -> [EntryRecord; 64]
+    requires { ⌜ i < 64 ⌝ }
+    ensures { λ r. ⌜ r ≡ set a i x ⌝ }
+{
+    let mut b = a;
+    b[i] = x;
+    b
+}
+
+// The first 64 records of the list, and records of zeros in the places that are left.
+fn gather(records: &[EntryRecord]) -> [EntryRecord; 64]
+    ensures { λ r. ⌜ r ≡ gathered (now (records .entry)) ⌝ }
+{
+    let mut a = no_records();
+    let mut i = 0;
+    while i < 64 {
+        a = put_record(a, i, record_at(records, i));
+        i += 1;
+    }
+    a
 }
