@@ -18,6 +18,11 @@ unfolding packed
 length-packed from [] = refl
 length-packed from (e ∷ es) = ap suc (length-packed (from + length (e .image)) es)
 
+pub length-images : (es : List Entry) → length (images es) ≡ total (λ e. length (e .image)) es
+unfolding images total
+length-images [] = refl
+length-images (e ∷ es) = simp length-append (omega (arith, length-images es))
+
 -- the table, and the images
 pub packed-lengths : (es : List Entry) → packedLength es ≡ packedEnd es + length (images es)
 unfolding packedLength packedEnd images total
@@ -33,7 +38,7 @@ images-cut : (es : List Entry) (i : ℕ) → i < length es → images es ≡ ima
 unfolding images
 images-cut es i h = ap images (split-at es i noEntry h) ∙ images-append (take i es) (getD es i noEntry ∷ drop (suc i) es)
 
-packed-at : (from : ℕ) (es : List Entry) (i : ℕ) → i < length es
+pub packed-at : (from : ℕ) (es : List Entry) (i : ℕ) → i < length es
     → getD (packed from es) i noRow ≡ record { offset = from + length (images (take i es)); size = length (getD es i noEntry .image); id = getD es i noEntry .id }
 unfolding packed images
 packed-at from [] i h = absurd (omega arith)

@@ -27,7 +27,7 @@ unfolding empty
 some-length [] e = clash _ refl e
 some-length (x ∷ l) e = omega arith
 
-length-table : (rs : List Row) → length (table rs) ≡ total (λ r. 24 + length (r .id)) rs
+pub length-table : (rs : List Row) → length (table rs) ≡ total (λ r. 24 + length (r .id)) rs
 unfolding table total
 length-table [] = refl
 length-table (r ∷ rs) = simp (length-append, length-rowBytes, length-table rs)
