@@ -1,0 +1,24 @@
+/* The rules for bundles in plain C, written to be fast: what the library's speed is held against. Not proved. */
+#ifndef BASELINE_H
+#define BASELINE_H
+
+#include <stddef.h>
+#include <stdint.h>
+
+struct checked {
+    uint64_t number, place, count;
+};
+
+struct picked {
+    uint64_t number, place, index, position, size;
+};
+
+struct written {
+    uint64_t number, place, length;
+};
+
+struct checked baseline_check(const uint8_t *bundle, size_t length);
+struct picked baseline_pick(const uint8_t *bundle, size_t length, const uint8_t *device, size_t device_length);
+struct written baseline_normalise(const uint8_t *bundle, size_t length, uint8_t *out, size_t room);
+
+#endif
