@@ -1,5 +1,5 @@
-/* How it is fast: one pass over each ID; an ID that is canonical already is used where it stands; equal IDs and equal targets are found
- * through hash tables, so the work grows with the number of entries and not with its square. */
+/* The rules for bundles, in plain C. One pass over each ID; an ID that is canonical already is used where it stands; equal IDs and equal
+ * targets are found through hash tables, so that the work grows with the number of entries and not with its square. */
 #include "baseline.h"
 
 #include <string.h>

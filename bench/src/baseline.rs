@@ -1,7 +1,9 @@
 //! The baseline's calls, and the proof by cases that it gives the same answers: the second program's comparison, with the baseline in the
 //! library's place.
 
+use crate::baseline_binaries;
 use second::calls::{BundleCalls, NormaliseCalls};
+use second::families::binaries::Binaries;
 use second::families::bundles::Bundles;
 use second::families::Family;
 use second::gen::random::Random;
@@ -67,13 +69,18 @@ const CALLS: BundleCalls = BundleCalls {
     }),
 };
 
-/// Compares the baseline with the second program on the samples and on generated bundles; ends the program where it differs.
+/// Compares the baseline with the second program on the samples and on generated containers; ends the program where it differs.
 pub fn compare(cases: u64) {
-    let mut family = Bundles::new(CALLS);
-    let fixed = family.run_fixed().unwrap_or_else(|difference| panic!("the baseline differs: {difference:?}"));
+    compare_family(Box::new(Bundles::new(CALLS)), cases);
+    compare_family(Box::new(Binaries::new(baseline_binaries::next)), cases);
+}
+
+fn compare_family(mut family: Box<dyn Family>, cases: u64) {
+    let name = family.name();
+    let fixed = family.run_fixed().unwrap_or_else(|difference| panic!("{name}: the plain C differs: {difference:?}"));
     for case in 0..cases {
         let result = family.run(&mut Random::of_case(1, case));
-        result.unwrap_or_else(|difference| panic!("the baseline differs in case {case}: {difference:?}"));
+        result.unwrap_or_else(|difference| panic!("{name}: the plain C differs in case {case}: {difference:?}"));
     }
-    println!("The baseline answers as the second program does: {cases} generated bundles, {fixed} examples and real files.\n");
+    println!("{name}: the plain C answers as the second program does, in {cases} generated cases and {fixed} examples and real files.\n");
 }

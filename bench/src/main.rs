@@ -1,6 +1,8 @@
 //! Times the library: `bench TOOL FOLDER`, with the tool to run and a folder for files. Prints tables for docs/BENCHMARKS.md.
 
 mod baseline;
+mod baseline_binaries;
+mod binaries;
 mod bundles;
 mod clock;
 mod library;
@@ -22,6 +24,7 @@ fn main() {
     baseline::compare(5000);
     bundles::jobs();
     bundles::growth();
+    binaries::reading();
     llvm::jobs(tool, Path::new(work));
 }
 

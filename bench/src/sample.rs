@@ -1,6 +1,7 @@
-//! Bundles as LLVM's bundler writes them, of any number of entries and any size of image.
+//! Containers as LLVM's tools write them.
 
 use second::model::bundle::packed;
+use second::samples::BINARIES;
 
 /// The device that is asked for: the last entry is for it.
 pub fn device(entries: usize) -> String {
@@ -23,4 +24,9 @@ pub fn bundle(entries: usize, image: usize) -> Vec<u8> {
     let image: Vec<u8> = (0..image).map(|k| (k * 37 % 251) as u8).collect();
     let ids: Vec<Vec<u8>> = (0..entries).map(|entry| id(entry).into_bytes()).collect();
     packed(&ids.into_iter().map(|id| (id, image.as_slice())).collect::<Vec<_>>())
+}
+
+/// So many offload binaries: one of LLVM's packager, again and again. It has two string pairs.
+pub fn binaries(count: usize) -> Vec<u8> {
+    BINARIES[0].bytes.repeat(count)
 }
