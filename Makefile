@@ -11,15 +11,16 @@ POSIX := gcc -std=c99 -D_POSIX_C_SOURCE=200809L -O2 $(STRICT)
 VERSION := 0.1.0
 TOOL := target/offload
 PREFIX := /usr/local
+LLVM := llvm
 
-.PHONY: test demo prove library calls compare tool tool-test example install install-test compiler tools
+.PHONY: test demo prove library calls compare tool tool-test example install install-test damage bench compiler tools
 
 # The proofs and the must-fail edits first, then the library against the second program. `rt ci` removes target/, so its last line is kept outside.
 test: tools
 	rt fmt --check
 	verdict=$$(mktemp); trap 'rm -f "$$verdict"' EXIT; \
 	rt ci | tee "$$verdict"; \
-	$(MAKE) --no-print-directory calls compare tool-test example install-test; \
+	$(MAKE) --no-print-directory calls compare tool-test example install-test damage LLVM=; \
 	tail -n 1 "$$verdict"
 
 # What the tool does with a real bundle.
@@ -73,6 +74,19 @@ install-test:
 	rm -rf target/installed
 	$(MAKE) --no-print-directory install PREFIX=$(CURDIR)/target/installed
 	tests/install.sh target/installed
+
+# Damaged copies of the samples, given to the tool and to LLVM's tools: how often each answers, refuses, crashes, hangs.
+damage: tool
+	rm -rf target/damage
+	mkdir -p target/damage
+	$(POSIX) -o target/make-damage tests/damage.c
+	target/make-damage 2000 target/damage samples/bundles/* samples/binaries/*
+	tests/damage.sh $(TOOL) target/damage $(LLVM)
+
+# The library's speed beside that of the second program, plain C, memcpy and LLVM's tools.
+bench: tool
+	$(CARGO) build --release --offline --manifest-path bench/Cargo.toml
+	bench/target/release/bench $(TOOL) target/bench | tee target/bench.md
 
 # What is needed beside the Rattle kit: for the tool, and for `make test`.
 need = for program in $(1); do command -v $$program >/dev/null || { apt-get update -qq; apt-get install -y -qq $(1); break; }; done
