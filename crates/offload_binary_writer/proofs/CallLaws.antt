@@ -2,7 +2,7 @@
 use Prim.Native.Nat.{ℕ, zero, suc, _+_, _*_, _/_, _%_, _<_, _≤_}
 use native.Mathlib.Omega.{arith}
 use mathlib.Core.Path.{_≡_, refl, sym, ap, ap₂, _∙_}
-use mathlib.Core.Bool.{Bool, true, false, _||_, or-true}
+use mathlib.Core.Bool.{Bool, true, false, _||_, cond, or-true}
 use mathlib.Core.List.{List, [], _++_, map}
 use lib.ListN.{length, getD, take, drop, length-take, length-drop}
 use lib.Dec.{ltb, eqb}
@@ -152,3 +152,14 @@ module _ (tags : Tags) (image : List ℕ) (l : List StringPair) (buf out : List 
               ap (λ m. record { number = 0; place = 0; len = m }) e ∙ ap (λ o. o .answer) w,
               q ∙ overwrite-in out 0 (written g) (omega arith) ∙ ap (λ m. written g ++ drop m out) z ∙ ap (λ o. o .out) w,
             )
+
+  -- of a list of more than 32 pairs nothing else is asked
+  many-bad : 32 < length l → badPairs buf l ≡ true
+  unfolding badPairs
+  many-bad h = rw (lt-ltb _ _ h)
+
+  pub call-many : 32 < length l → write tags image l buf out ≡ outputBy (cond (badKinds (tags .«image_kind») (tags .«offload_kind»)) 15 16) [] out
+  call-many h =
+      byBool (badKinds (tags .«image_kind») (tags .«offload_kind»))
+      (λ t. back 15 (stop-kinds t) ∙ rw t)
+      (λ f. back 16 (stop-pairs f (many-bad h)) ∙ rw f)
