@@ -14,7 +14,7 @@ use native.Mathlib.Omega.{arith}
 use mathlib.Core.List.{List, [], _∷_, _++_}
 use mathlib.Core.Logic.{⊎-elim}
 use lib.Dec.{lit≤}
-use lib.ListN.{length, getD, set, replicate, take, length-set, length-replicate, length-append}
+use lib.ListN.{length, getD, set, replicate, length-set, length-replicate, length-append}
 use lib.Seq.{ext-getD, getD-set-same, getD-set-other, getD-take, length-take-le}
 use lib.Dec.{leb}
 use borrow.Author.Tests.{leb-true, leb-false}
@@ -87,13 +87,13 @@ unfolding listed
 listed-all ys few =
     ext-getD noPair (tab (length ys) (λ i. getD (gathered ys) i noPair)) ys (length-tab (length ys) _)
     (λ j l. let h : j < length ys = omega (arith, length-tab (length ys) (λ i. getD (gathered ys) i noPair)) in
-        getD-tab (length ys) (λ i. getD (gathered ys) i noPair) j noPair h ∙ gathered-at ys j (omega arith))
+    getD-tab (length ys) (λ i. getD (gathered ys) i noPair) j noPair h ∙ gathered-at ys j (omega arith))
 
 pub write-gathered : (tags : Tags) (image : List ℕ) (ys : List StringPair) (buf out : List ℕ) → write tags image (listed (gathered ys) (length ys)) buf out ≡ write tags image ys buf out
 write-gathered tags image ys buf out =
     byBool (leb (length ys) 32)
     (λ t. ap (λ l. write tags image l buf out) (listed-all ys (leb-true _ _ t)))
     (λ f.
-        let many : 32 < length ys = leb-false _ _ f in
-        call-many tags image (listed (gathered ys) (length ys)) buf out (omega (arith, length-listed (gathered ys) (length ys)))
-        ∙ sym (call-many tags image ys buf out many))
+    let many : 32 < length ys = leb-false _ _ f in
+    call-many tags image (listed (gathered ys) (length ys)) buf out (omega (arith, length-listed (gathered ys) (length ys)))
+    ∙ sym (call-many tags image ys buf out many))

@@ -4,3 +4,5 @@ pub mod WriteLaws
 pub mod WholeLaws
 pub mod CallLaws
 pub mod Gathered
+pub mod WritableLaws
+pub mod Theorems
