@@ -20,7 +20,8 @@ use Rattle.offload_binary.specs.declared.StringPair.{StringPair}
 use Rattle.offload_binary.proofs.ListLaws.{getD-tab}
 use Rattle.offload_binary.proofs.WrittenLaws.{up8-le, length-written}
 use Rattle.offload_binary_writer.specs.Writer.{badPart, badPair, badPairs, given, writeStop, outputBy, write}
-use Rattle.offload_binary_writer.specs.Code.{partIn, textIn, listed}
+use Rattle.offload_binary_writer.specs.Code.{partIn, textIn}
+use Rattle.offload_binary_writer.specs.Writer.{listed}
 use Rattle.offload_binary_writer.specs.declared.Tags.{Tags}
 use Rattle.offload_binary_writer.specs.declared.Written.{Written}
 use Rattle.offload_binary_writer.proofs.TextLaws.{part-key, part-text, length-listed}

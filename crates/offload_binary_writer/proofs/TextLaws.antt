@@ -16,7 +16,8 @@ use Rattle.offload_binary.specs.Contents.{KeyText, noKeyText, keyText, fieldByt
 use Rattle.offload_binary.specs.declared.StringPair.{StringPair}
 use Rattle.offload_binary.proofs.ListLaws.{length-tab, getD-tab, tab-snoc, map-tab}
 use Rattle.offload_binary.proofs.WrittenLaws.{length-texts, texts-key, texts-text, length-strings, strings-append}
-use Rattle.offload_binary_writer.specs.Code.{partIn, textIn, listed}
+use Rattle.offload_binary_writer.specs.Code.{partIn, textIn}
+use Rattle.offload_binary_writer.specs.Writer.{listed}
 
 -- of eight zero bytes, the first n
 pub few-zeros : (n : ℕ) → n ≤ 8 → _≡_ {A = List ℕ} (take n (0 ∷ 0 ∷ 0 ∷ 0 ∷ 0 ∷ 0 ∷ 0 ∷ 0 ∷ [])) (replicate n 0)

@@ -14,7 +14,8 @@ use Rattle.offload_binary.specs.declared.StringPair.{StringPair}
 use Rattle.offload_binary.proofs.ListLaws.{length-tab}
 use Rattle.offload_binary.proofs.WrittenLaws.{up8-le, length-offsets}
 use Rattle.offload_binary_writer.specs.Writer.{given}
-use Rattle.offload_binary_writer.specs.Code.{textIn, listed, LayoutIs, headerBytes, entryFields}
+use Rattle.offload_binary_writer.specs.Code.{textIn, LayoutIs, headerBytes, entryFields}
+use Rattle.offload_binary_writer.specs.Writer.{listed}
 use Rattle.offload_binary_writer.specs.declared.Tags.{Tags}
 use Rattle.offload_binary_writer.specs.declared.Layout.{Layout}
 use Rattle.offload_binary_writer.proofs.TextLaws.{length-given, texts-are}

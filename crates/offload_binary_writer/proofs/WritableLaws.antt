@@ -18,7 +18,8 @@ use Rattle.offload_binary.specs.declared.StringPair.{StringPair}
 use Rattle.offload_binary.proofs.ListLaws.{tab-getD}
 use Rattle.offload_binary.proofs.WrittenLaws.{length-texts}
 use Rattle.offload_binary_writer.specs.Writer.{badPart, badPair, badPairs, given}
-use Rattle.offload_binary_writer.specs.Code.{partIn, textIn, listed}
+use Rattle.offload_binary_writer.specs.Code.{partIn, textIn}
+use Rattle.offload_binary_writer.specs.Writer.{listed}
 use Rattle.offload_binary_writer.proofs.TextLaws.{length-given, given-at, text-at}
 use Rattle.offload_binary_writer.proofs.CallLaws.{few-pairs, pair-good, part-good, keys-differ, short-texts, back}
 

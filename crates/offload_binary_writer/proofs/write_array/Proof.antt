@@ -1,11 +1,11 @@
 use native.Mathlib.Omega.{arith}
 use mathlib.Core.Path.{sym, _∙_}
-use Rattle.offload_binary_writer.specs.Code.{listed}
+use Rattle.offload_binary_writer.specs.Writer.{listed}
 use Rattle.offload_binary_writer.proofs.WholeLaws.{size-is}
 use Rattle.offload_binary_writer.proofs.CallLaws.{few-pairs, short-texts, call-kinds, call-pairs, call-big, image-big, call-room, call-good}
 use borrow.Author.Needs.{needs}
-use Rattle.offload_binary_writer.proofs.write_listed.Statement.{statement}
-use Rattle.offload_binary_writer.proofs.write_listed.Tie as tie
+use Rattle.offload_binary_writer.proofs.write_array.Statement.{statement}
+use Rattle.offload_binary_writer.proofs.write_array.Tie as tie
 
 bad-kinds-requires : tie.Need-bad-kinds-requires
 bad-kinds-requires c κs = search needs
@@ -83,8 +83,8 @@ returns-6 c =
     let z = size-is (a .tags) (a .image .now) (a .pairs) (a .n) (a .buf .now) (c .before .before .before .before .before .before .before .before .places .result) (c .before .before .before .before .before .before .before .before .places .ensures) in
     call-good (a .tags) (a .image .now) (listed (a .pairs) (a .n)) (a .buf .now) (a .out .now) k (sym (c .before .before .before .before .before .before .before .before .before .before .before .bad-pairs .ensures) ∙ c .before .before .before .before .before .before .before .before .before .before .if2 .left) (omega arith) (omega arith) (c .before .before .before .before .before .before .before .before .places .result .size) (sym z) (c .before .before .write-parts .last .0) (c .before .before .write-parts .ensures)
 
-pub write-listed-spec : {M : Type 1} → statement M
-write-listed-spec =
+pub write-array-spec : {M : Type 1} → statement M
+write-array-spec =
     tie.close
     (tie.spec
     bad-kinds-requires

@@ -21,11 +21,12 @@ use borrow.Author.Tests.{leb-true, leb-false}
 use Rattle.wire.proofs.Bools.{byBool}
 use Rattle.offload_binary.specs.Lists.{tab}
 use Rattle.offload_binary.proofs.ListLaws.{length-tab, getD-tab}
 use Rattle.offload_binary_writer.specs.Writer.{write}
-use Rattle.offload_binary_writer.specs.Code.{gathered, listed}
+use Rattle.offload_binary_list.specs.Code.{gathered}
+use Rattle.offload_binary_writer.specs.Writer.{listed}
 use Rattle.offload_binary_writer.specs.declared.Tags.{Tags}
 use Rattle.offload_binary_writer.proofs.TextLaws.{length-listed}
 use Rattle.offload_binary_writer.proofs.CallLaws.{call-many}
 use Rattle.offload_binary.specs.Binary.{noPair}
 use Rattle.offload_binary.specs.declared.StringPair.{StringPair}
 

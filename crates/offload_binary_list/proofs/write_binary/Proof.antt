@@ -1,5 +1,5 @@
 -- `write_binary` meets its contract: a walk of its MIR, by hand, of three calls. All that the proof knows of the callees is that each meets its contract.
--- The list of pairs goes to `gather` and `pair_count`, each time a copy of what it owns; the tags, the array, the number and the slices of bytes go to `write_listed`, and out with them for good (`gave-slice`).
+-- The list of pairs goes to `gather` and `pair_count`, each time a copy of what it owns; the tags, the array, the number and the slices of bytes go to `write_array`, and out with them for good (`gave-slice`).
 -- Of the four lifetimes' tokens the second goes to the first two calls, and the other three to the last. The tags own only facts, which are made anew at the end.
 -- Assumes nothing.
 use mathlib.Core.Path.{_≡_, refl, ap, _∙_}
@@ -39,34 +39,35 @@ use denote.Triple.Table.{entered, cited}
 use denote.Triple.Walked.{says, Stays, stay-none, stay-none-slice, gave-slice, walkOf, goes-none, goes-none-slice, goes-gave-slice, Walks, ends-at, walked, walk-meets}
 use denote.Exit.{yes}
 use denote.Triple.Clauses.{ensured, Lasts, lasts}
 use Rattle.offload_binary_writer.specs.Writer.{Output, write}
-use Rattle.offload_binary_writer.specs.Code.{gathered, listed}
+use Rattle.offload_binary_list.specs.Code.{gathered}
+use Rattle.offload_binary_writer.specs.Writer.{listed}
 use Rattle.offload_binary_writer.specs.declared.Tags.{Tags}
-use Rattle.offload_binary_writer.proofs.Gathered.{write-gathered}
+use Rattle.offload_binary_list.proofs.Gathered.{write-gathered}
 use Rattle.offload_binary.specs.declared.StringPair.{StringPair}
 use Rattle.offload_binary_writer.specs.declared.Written.{Written}
 use Rattle.offload_binary.proofs.StringPair as T
 use Rattle.offload_binary.proofs.StringPair.Laws as T′
 use Rattle.offload_binary_writer.proofs.Tags as G
 use Rattle.offload_binary_writer.proofs.Tags.Laws as G′
 use Rattle.offload_binary_writer.proofs.Written as S
 use Rattle.offload_binary_writer.proofs.Written.Laws as S′
-use Rattle.offload_binary_writer.proofs.gather as gather
-use Rattle.offload_binary_writer.proofs.gather.Symbol as gather-def
-use Rattle.offload_binary_writer.proofs.gather.Symbol.{name as #gather}
-use Rattle.offload_binary_writer.proofs.gather.Met as gather-thm
-use Rattle.offload_binary_writer.proofs.pair_count as count
-use Rattle.offload_binary_writer.proofs.pair_count.Symbol as count-def
-use Rattle.offload_binary_writer.proofs.pair_count.Symbol.{name as #pair-count}
-use Rattle.offload_binary_writer.proofs.pair_count.Met as count-thm
-use Rattle.offload_binary_writer.proofs.write_listed as list
-use Rattle.offload_binary_writer.proofs.write_listed.Symbol as list-def
-use Rattle.offload_binary_writer.proofs.write_listed.Symbol.{name as #write-listed}
-use Rattle.offload_binary_writer.proofs.write_listed.Met as list-thm
-use Rattle.offload_binary_writer.proofs.write_binary.Key.{name as #write-binary}
-use Rattle.offload_binary_writer.proofs.write_binary as this
-use Rattle.offload_binary_writer.proofs.write_binary.Statement as stated
-use Rattle.offload_binary_writer.proofs.write_binary.Code as code
+use Rattle.offload_binary_list.proofs.gather as gather
+use Rattle.offload_binary_list.proofs.gather.Symbol as gather-def
+use Rattle.offload_binary_list.proofs.gather.Symbol.{name as #gather}
+use Rattle.offload_binary_list.proofs.gather.Met as gather-thm
+use Rattle.offload_binary_list.proofs.pair_count as count
+use Rattle.offload_binary_list.proofs.pair_count.Symbol as count-def
+use Rattle.offload_binary_list.proofs.pair_count.Symbol.{name as #pair-count}
+use Rattle.offload_binary_list.proofs.pair_count.Met as count-thm
+use Rattle.offload_binary_writer.proofs.write_array as list
+use Rattle.offload_binary_writer.proofs.write_array.Symbol as list-def
+use Rattle.offload_binary_writer.proofs.write_array.Symbol.{name as #write-array}
+use Rattle.offload_binary_writer.proofs.write_array.Met as list-thm
+use Rattle.offload_binary_list.proofs.write_binary.Key.{name as #write-binary}
+use Rattle.offload_binary_list.proofs.write_binary as this
+use Rattle.offload_binary_list.proofs.write_binary.Statement as stated
+use Rattle.offload_binary_list.proofs.write_binary.Code as code
 
 abbrev R : RattleType
 R = T.the-row
@@ -108,7 +109,7 @@ module _ {M : Type 1} (𝓤 : URA M) (H : Heap 𝓤) (A : Atoms 𝓤) (W : Given
   abbrev vals : Vals this.signature (κ, (κ₁, (κ₂, (κ₃, tt))))
   vals = (tv ∷ [], (at image ∷ [], (v ∷ [], (at strings ∷ [], (at out ∷ [], tt)))))
 
-  -- what `write_listed` is passed beside the array's and the number's machine values
+  -- what `write_array` is passed beside the array's and the number's machine values
   abbrev b : Args list.signature (κ, (κ₂, (κ₃, tt)))
   b = (tags, (image, (gathered ys, (length ys, (strings, (out, tt))))))
 
@@ -155,7 +156,7 @@ module _ {M : Type 1} (𝓤 : URA M) (H : Heap 𝓤) (A : Atoms 𝓤) (W : Given
   count-said : (n : ℕ) → ent 𝓤 (ensured 𝓤 H A count.ended (count.clauses 𝓤 H A mem run) (κ₁, tt) (s, tt) tt n) (fact 𝓤 (n ≡ length ys))
   count-said n = exE 𝓤 _ (λ ws. snd∗ 𝓤 (sem 𝓤 H A (lasts count.ended (κ₁, tt) (s, tt) ws)) (fact 𝓤 (n ≡ length ys)))
 
-  -- the call of `write_listed`: what it asks, and copies of what the two `&[u8]` own are kept
+  -- the call of `write_array`: what it asks, and copies of what the two `&[u8]` own are kept
   abbrev to-list : Val → Val → Listed 𝓤 H A mem run .Ghost
   to-list u w = (((κ, (κ₂, (κ₃, tt))), (q, (q₂, (q₃, tt))), tt, b, (tv ∷ [], (at image ∷ [], (u ∷ [], (w ∷ [], (at strings ∷ [], (at out ∷ [], tt))))))), tt)
 
@@ -172,7 +173,7 @@ module _ {M : Type 1} (𝓤 : URA M) (H : Heap 𝓤) (A : Atoms 𝓤) (W : Given
       -- [what the callee's parameters own; Strings; Image; the tokens]
       move ! (3 ∷ 0 ∷ []) $ join ! $ nothing ! $ move ! (1 ∷ 0 ∷ []) $ join ! $ move ! (0 ∷ 2 ∷ 1 ∷ []) $ done !
 
-  -- what `write_listed` says of its result and of the last list, and what is to be said
+  -- what `write_array` says of its result and of the last list, and what is to be said
   abbrev listedOut : Output
   listedOut = write tags (now image) (listed (gathered ys) (length ys)) (now strings) (now out)
 
@@ -195,7 +196,7 @@ module _ {M : Type 1} (𝓤 : URA M) (H : Heap 𝓤) (A : Atoms 𝓤) (W : Given
       move ! (5 ∷ 0 ∷ []) $ fjoin ! $ move ! (4 ∷ 0 ∷ []) $ fjoin ! $ move ! (2 ∷ 0 ∷ []) $ fjoin ! $ move ! (2 ∷ 0 ∷ []) $ fjoin ! $
       owned ! G.the-row (Is G.the-row) (LL.makes G.the-type G′.the-plain 𝓤 H A) tags _ g $ fjoin ! $ frame ! $ done !
 
-  module _ (C : Calls 𝓤 H) (Λ : Loops 𝓤 H) (fm : FmC 𝓤 H (W .laws) C) (known-gather : Triple 𝓤 (C #gather) (Gather 𝓤 H A mem run)) (known-count : Triple 𝓤 (C #pair-count) (Count 𝓤 H A mem run)) (known-list : Triple 𝓤 (C #write-listed) (Listed 𝓤 H A mem run)) where
+  module _ (C : Calls 𝓤 H) (Λ : Loops 𝓤 H) (fm : FmC 𝓤 H (W .laws) C) (known-gather : Triple 𝓤 (C #gather) (Gather 𝓤 H A mem run)) (known-count : Triple 𝓤 (C #pair-count) (Count 𝓤 H A mem run)) (known-list : Triple 𝓤 (C #write-array) (Listed 𝓤 H A mem run)) where
     walk : Is G.the-row tags (tv ∷ []) → Is (ShrSlice (named 0) κ u8) image (at image ∷ []) → Is (ShrSlice (named 1) κ₁ R) s (v ∷ []) → Is (ShrSlice (named 2) κ₂ u8) strings (at strings ∷ []) → Is (MutSlice (named 3) κ₃ u8) out (at out ∷ [])
         → ent 𝓤 (onEntry 𝓤 H A this.signature (κ, (κ₁, (κ₂, (κ₃, tt)))) (q, (q₁, (q₂, (q₃, tt)))) a vals) (WpFn 𝓤 H C Λ code.function (tv ∷ at image ∷ v ∷ at strings ∷ at out ∷ []) Post)
     walk g p p₁ p₂ p₃ =
@@ -225,7 +226,7 @@ module _ {M : Type 1} (𝓤 : URA M) (H : Heap 𝓤) (A : Atoms 𝓤) (W : Given
         -- [the number; the second token; Own; the array; the other tokens; Out; Strings; Image; Tg; _9; …; _0; …]
         assigns ! (addr ! (from ! (fld ! refl (hop ! (look-in ! 17 (sub ! 0 refl (whole !))) (stop !))))) (from ! (stop !)) (init ! 11 refl (tt, tt)) $
         assigns ! (agg ! (and-then ! (load ! (from ! (stop !)) (look ! 11 refl)) (and-then ! (load ! (from ! (fld ! refl (stop !))) (look-in ! 17 (sub ! 1 refl (whole !)))) (no-more !)))) (from ! (stop !)) (init ! 9 refl (mut-slice-lawful 𝓤 H A W (named 3) κ₃ u8 .typed out _ p₃ .0)) $
-        -- _0 = write_listed(_1, _2, _6, _7, _4, _9)
+        -- _0 = write_array(_1, _2, _6, _7, _4, _9)
         move ! (6 ∷ 5 ∷ []) $ join ! $ move ! (6 ∷ 0 ∷ []) $ join ! $ move ! (4 ∷ 1 ∷ []) $ join ! $ move ! (5 ∷ 0 ∷ []) $ join ! $ move ! (4 ∷ 0 ∷ 1 ∷ []) $
         use3 W (raw (Listed 𝓤 H A mem run .pre (to-list u w)) ⊛ ‵ Image ⊛ ‵ Strings) (goes-list u w) $ split3 ! $
         -- [pre; Image; Strings; the second token; Own; _9; …; _0; …]
@@ -241,7 +242,7 @@ module _ {M : Type 1} (𝓤 : URA M) (H : Heap 𝓤) (A : Atoms 𝓤) (W : Given
         move ! (26 ∷ 27 ∷ []) $ free1 ! $ move ! (24 ∷ 25 ∷ []) $ free1 ! $ move ! (22 ∷ 23 ∷ []) $ free1 ! $ move ! (20 ∷ 21 ∷ []) $ free1 ! $ move ! (18 ∷ 19 ∷ []) $ free1 ! $ move ! (16 ∷ 17 ∷ []) $ free1 ! $ move ! (14 ∷ 15 ∷ []) $ free1 ! $ move ! (12 ∷ 13 ∷ []) $ free1 ! $ move ! (10 ∷ 11 ∷ []) $ free1 ! $ move ! (8 ∷ 9 ∷ []) $ free1 ! $ free0 ! $
         keep ! (0 ∷ 6 ∷ 1 ∷ 7 ∷ 4 ∷ 5 ∷ 2 ∷ []) $ by ! (exits r z (ws .1 .1 .1 .1 .1 .0) said l g)))))))))))))))))))))))))
 
-module _ {M : Type 1} (𝓤 : URA M) (H : Heap 𝓤) (A : Atoms 𝓤) (W : Given 𝓤 H A) (mem : Memory → SProp 𝓤) (run : Routine → Fun 𝓤) (𝓣 : Tables 𝓤 H) (known-gather : Triple 𝓤 (𝓣 .C #gather) (Gather 𝓤 H A mem run)) (known-count : Triple 𝓤 (𝓣 .C #pair-count) (Count 𝓤 H A mem run)) (known-list : Triple 𝓤 (𝓣 .C #write-listed) (Listed 𝓤 H A mem run)) where
+module _ {M : Type 1} (𝓤 : URA M) (H : Heap 𝓤) (A : Atoms 𝓤) (W : Given 𝓤 H A) (mem : Memory → SProp 𝓤) (run : Routine → Fun 𝓤) (𝓣 : Tables 𝓤 H) (known-gather : Triple 𝓤 (𝓣 .C #gather) (Gather 𝓤 H A mem run)) (known-count : Triple 𝓤 (𝓣 .C #pair-count) (Count 𝓤 H A mem run)) (known-list : Triple 𝓤 (𝓣 .C #write-array) (Listed 𝓤 H A mem run)) where
   all-walks : Walks 𝓤 H A this.ended stayed (WpFn 𝓤 H (𝓣 .C) (𝓣 .Λ) code.function) (this.clauses 𝓤 H A mem run)
   all-walks = walked 𝓤 H A this.ended stayed (this.clauses 𝓤 H A mem run) (WpFn 𝓤 H (𝓣 .C) (𝓣 .Λ) code.function) (λ κs. (LL.vals G.the-type G′.the-laws, (slice-vals, (slice-vals, (slice-vals, (slice-vals, tt))))))
       (λ κs. (LL.tells G.the-type G′.the-laws, (shr-slice-tells (named 0) (κs .0) u8, (shr-slice-tells (named 1) (κs .1 .0) R, (shr-slice-tells (named 2) (κs .1 .1 .0) u8, (mut-slice-tells (named 3) (κs .1 .1 .1 .0) u8, tt))))))
@@ -259,6 +260,6 @@ write-binary-spec 𝓤 H 𝓜 𝓖 𝓡 =
     entered 𝓤 H (tripleOf 𝓤 H (𝓖 .A) this.signature (this.spec 𝓤 H (𝓖 .A) (𝓜 .mem) (𝓡 .run)))
     (tables 𝓤 H 𝓜 𝓡 code.env .C) (tables 𝓤 H 𝓜 𝓡 code.env .Λ) #write-binary code.function (code.unfolded 𝓤 H 𝓜 𝓡)
     (all-meets 𝓤 H (𝓖 .A) (givenOf 𝓤 H 𝓜 𝓖) (𝓜 .mem) (𝓡 .run) (tablesOf 𝓤 H 𝓜 (tables 𝓤 H 𝓜 𝓡 code.env))
-    (cited 𝓤 H (Gather 𝓤 H (𝓖 .A) (𝓜 .mem) (𝓡 .run)) 𝓜 𝓡 code.env #gather gather-def.routine code.calls-offload-binary-writer·gather (gather-thm.met 𝓤 H 𝓜 𝓖 𝓡))
-    (cited 𝓤 H (Count 𝓤 H (𝓖 .A) (𝓜 .mem) (𝓡 .run)) 𝓜 𝓡 code.env #pair-count count-def.routine code.calls-offload-binary-writer·pair-count (count-thm.met 𝓤 H 𝓜 𝓖 𝓡))
-    (cited 𝓤 H (Listed 𝓤 H (𝓖 .A) (𝓜 .mem) (𝓡 .run)) 𝓜 𝓡 code.env #write-listed list-def.routine code.calls-offload-binary-writer·write-listed (list-thm.met 𝓤 H 𝓜 𝓖 𝓡)))
+    (cited 𝓤 H (Gather 𝓤 H (𝓖 .A) (𝓜 .mem) (𝓡 .run)) 𝓜 𝓡 code.env #gather gather-def.routine code.calls-offload-binary-list·gather (gather-thm.met 𝓤 H 𝓜 𝓖 𝓡))
+    (cited 𝓤 H (Count 𝓤 H (𝓖 .A) (𝓜 .mem) (𝓡 .run)) 𝓜 𝓡 code.env #pair-count count-def.routine code.calls-offload-binary-list·pair-count (count-thm.met 𝓤 H 𝓜 𝓖 𝓡))
+    (cited 𝓤 H (Listed 𝓤 H (𝓖 .A) (𝓜 .mem) (𝓡 .run)) 𝓜 𝓡 code.env #write-array list-def.routine code.calls-offload-binary-writer·write-array (list-thm.met 𝓤 H 𝓜 𝓖 𝓡)))
