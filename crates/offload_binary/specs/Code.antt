@@ -1,15 +1,11 @@
 -- What the private functions of the reader ensure. No public promise rests on these. Definitions only.
 use Prim.Native.Nat.{ℕ}
-use mathlib.Core.Bool.{Bool, true, false, _||_, cond}
+use mathlib.Core.Bool.{true, false, cond}
 use mathlib.Core.List.{List, []}
-use lib.ListN.{getD, drop}
-use lib.Dec.{ltb}
-use Rattle.wire.specs.Bytes.{same}
+use lib.ListN.{drop}
 use Rattle.wire.specs.First.{anyBelow}
-use Rattle.wire.specs.Stop.{earlier}
 use Rattle.offload_binary.specs.Lists.{tab, slots}
-use Rattle.offload_binary.specs.Binary.{bytesAt, run, entryOf, pair, badString, badPair, badStrings, bodyStop, noPair, handsBack, answerBy}
-use Rattle.offload_binary.specs.declared.StringPair.{StringPair}
+use Rattle.offload_binary.specs.Binary.{run, entryOf, pair, badString, badPair, badStrings, bodyStop, noPair, handsBack, answerBy}
 use Rattle.offload_binary.specs.declared.ReadPair.{ReadPair}
 use Rattle.offload_binary.specs.declared.ReadPairs.{ReadPairs}
 use Rattle.offload_binary.specs.declared.Answer.{Answer}

@@ -1,27 +1,27 @@
 -- The writer's refusals, as code tries them one after another. Assumes nothing.
-use Prim.Native.Nat.{ℕ, zero, suc, _+_, _*_, _/_, _%_, _<_, _≤_}
+use Prim.Native.Nat.{ℕ, suc, _+_, _*_, _/_, _%_, _<_, _≤_}
 use native.Mathlib.Omega.{arith}
-use mathlib.Core.Path.{_≡_, refl, sym, ap, ap₂, _∙_}
-use mathlib.Core.Bool.{Bool, true, false, _||_, or-true}
-use mathlib.Core.List.{List, [], _++_, map}
-use lib.ListN.{length, getD, take, drop, length-take, length-drop}
+use mathlib.Core.Path.{_≡_, sym, ap, ap₂, _∙_}
+use mathlib.Core.Bool.{true, false, _||_, cond, or-true}
+use mathlib.Core.List.{List, [], _++_}
+use lib.ListN.{length, getD, drop, length-take, length-drop}
 use lib.Dec.{ltb, eqb}
 use borrow.Author.Tests.{lt-ltb, le-ltb, ltb-false, eqb-true, eqb-false}
 use Rattle.wire.specs.Bytes.{same, overwrite}
 use Rattle.wire.specs.First.{anyBelow}
-use Rattle.wire.specs.Stop.{Stop, _⨾_, stopIf, stopWhen, earlier}
-use Rattle.wire.proofs.Bools.{byBool, or-neither, neither-or}
+use Rattle.wire.specs.Stop.{_⨾_, stopIf, stopWhen, earlier}
+use Rattle.wire.proofs.Bools.{byBool, or-neither}
 use Rattle.wire.proofs.FirstLaws.{any-some, any-none, any-same, none-any}
 use Rattle.wire.proofs.StopLaws.{earlier-same}
 use Rattle.wire.proofs.OverwriteLaws.{overwrite-in}
 use Rattle.offload_binary.specs.Binary.{bytesAt, ended, badKinds, noPair, keyIn, badKeys}
 use Rattle.offload_binary.specs.Contents.{Contents, limit, imageStart, imageEnd, binarySize, written, tooBig}
-use Rattle.offload_binary.specs.declared.Part.{Part}
 use Rattle.offload_binary.specs.declared.StringPair.{StringPair}
 use Rattle.offload_binary.proofs.ListLaws.{getD-tab}
 use Rattle.offload_binary.proofs.WrittenLaws.{up8-le, length-written}
-use Rattle.offload_binary_writer.specs.Writer.{badPart, badPair, badPairs, given, writeStop, Output, outputBy, write}
-use Rattle.offload_binary_writer.specs.Code.{partIn, textIn, listed}
+use Rattle.offload_binary_writer.specs.Writer.{badPart, badPair, badPairs, given, writeStop, outputBy, write}
+use Rattle.offload_binary_writer.specs.Code.{partIn, textIn}
+use Rattle.offload_binary_writer.specs.Writer.{listed}
 use Rattle.offload_binary_writer.specs.declared.Tags.{Tags}
 use Rattle.offload_binary_writer.specs.declared.Written.{Written}
 use Rattle.offload_binary_writer.proofs.TextLaws.{part-key, part-text, length-listed}
@@ -64,10 +64,10 @@ module _ (buf : List ℕ) (pairs : List StringPair) (n : ℕ) where
     pub few-pairs : n ≤ 32
     few-pairs = ltb-false _ _ (or-neither (ltb 32 n) _ (facts .0) .0)
 
-    pair-good : (i : ℕ) → i < n → badPair buf (getD pairs i noPair) ≡ false
+    pub pair-good : (i : ℕ) → i < n → badPair buf (getD pairs i noPair) ≡ false
     pair-good = none-any n (λ i. badPair buf (getD pairs i noPair)) (or-neither (ltb 32 n) _ (facts .0) .1)
 
-    part-good : (j : ℕ) → j < 2 * n → badPart buf (partIn pairs j) ≡ false
+    pub part-good : (j : ℕ) → j < 2 * n → badPart buf (partIn pairs j) ≡ false
     unfolding badPair
     part-good j h =
         let p = getD pairs (j / 2) noPair in
@@ -76,6 +76,9 @@ module _ (buf : List ℕ) (pairs : List StringPair) (n : ℕ) where
         byBool (eqb (j % 2) 0)
         (λ t. ap (badPart buf) (sym (part-key pairs j (eqb-true _ _ t))) ∙ c .0)
         (λ f. ap (badPart buf) (sym (part-text pairs j (eqb-false _ _ f))) ∙ c .1)
+
+    pub keys-differ : (i : ℕ) → i < n → earlier same (keyIn buf pairs) i ≡ false
+    keys-differ = none-any n (earlier same (keyIn buf pairs)) (facts .1)
 
     pub short-texts : (j : ℕ) → j < 2 * n → length (textIn buf pairs j) ≤ 256
     unfolding badPart textIn bytesAt
@@ -95,7 +98,7 @@ module _ (tags : Tags) (image : List ℕ) (l : List StringPair) (buf out : List 
   abbrev Back : Written → List ℕ → Type 0
   Back r o = (r ≡ write tags image l buf out .answer) × (o ≡ write tags image l buf out .out)
 
-  back : (k : ℕ) → writeStop tags image l buf (length out) .number ≡ k → write tags image l buf out ≡ outputBy k (written g) out
+  pub back : (k : ℕ) → writeStop tags image l buf (length out) .number ≡ k → write tags image l buf out ≡ outputBy k (written g) out
   unfolding write
   back k e = ap (λ j. outputBy j (written g) out) e
 
@@ -152,3 +155,14 @@ module _ (tags : Tags) (image : List ℕ) (l : List StringPair) (buf out : List 
               ap (λ m. record { number = 0; place = 0; len = m }) e ∙ ap (λ o. o .answer) w,
               q ∙ overwrite-in out 0 (written g) (omega arith) ∙ ap (λ m. written g ++ drop m out) z ∙ ap (λ o. o .out) w,
             )
+
+  -- of a list of more than 32 pairs nothing else is asked
+  many-bad : 32 < length l → badPairs buf l ≡ true
+  unfolding badPairs
+  many-bad h = rw (lt-ltb _ _ h)
+
+  pub call-many : 32 < length l → write tags image l buf out ≡ outputBy (cond (badKinds (tags .«image_kind») (tags .«offload_kind»)) 15 16) [] out
+  call-many h =
+      byBool (badKinds (tags .«image_kind») (tags .«offload_kind»))
+      (λ t. back 15 (stop-kinds t) ∙ rw t)
+      (λ f. back 16 (stop-pairs f (many-bad h)) ∙ rw f)

@@ -3,4 +3,5 @@ pub mod TextLaws
 pub mod WriteLaws
 pub mod WholeLaws
 pub mod CallLaws
-pub mod Gathered
+pub mod WritableLaws
+pub mod Theorems

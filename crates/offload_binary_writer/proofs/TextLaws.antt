@@ -2,24 +2,22 @@
 use Prim.Native.Nat.{ℕ, zero, suc, _+_, _*_, _/_, _%_, _<_, _≤_}
 use native.Mathlib.Omega.{arith}
 use native.Mathlib.Numerals.{add-one}
-use mathlib.Core.Path.{_≡_, refl, sym, ap, ap₂, _∙_}
-use mathlib.Core.Bool.{Bool, true, false, cond}
+use mathlib.Core.Path.{_≡_, refl, sym, ap, _∙_}
 use mathlib.Core.List.{List, [], _∷_, _++_, map, append-nil, append-assoc}
-use lib.ListN.{length, getD, take, replicate, length-append, length-map, List·getD-map}
+use lib.ListN.{length, getD, take, replicate, length-append, length-map}
 use lib.Seq.{ext-getD}
 use lib.Dec.{eqb}
 use borrow.Author.Tests.{eqb-true, eqb-false, eq-eqb, ne-eqb}
 use Rattle.wire.specs.Word.{bytesOf}
 use Rattle.wire.proofs.Bools.{byBool}
-use Rattle.wire.proofs.WordLaws.{length-bytesOf}
 use Rattle.offload_binary.specs.Lists.{tab}
 use Rattle.offload_binary.specs.Binary.{bytesAt, noPair}
-use Rattle.offload_binary.specs.Contents.{KeyText, noKeyText, keyText, Field, _∶_, fieldBytes, texts, stringBytes, offsets, keyOf}
-use Rattle.offload_binary.specs.declared.Part.{Part}
+use Rattle.offload_binary.specs.Contents.{KeyText, noKeyText, keyText, fieldBytes, texts, stringBytes, offsets, keyOf}
 use Rattle.offload_binary.specs.declared.StringPair.{StringPair}
 use Rattle.offload_binary.proofs.ListLaws.{length-tab, getD-tab, tab-snoc, map-tab}
-use Rattle.offload_binary.proofs.WrittenLaws.{length-texts, texts-key, texts-text, length-strings, strings-append, length-offsets}
-use Rattle.offload_binary_writer.specs.Code.{partIn, textIn, listed}
+use Rattle.offload_binary.proofs.WrittenLaws.{length-texts, texts-key, texts-text, length-strings, strings-append}
+use Rattle.offload_binary_writer.specs.Code.{partIn, textIn}
+use Rattle.offload_binary_writer.specs.Writer.{listed}
 
 -- of eight zero bytes, the first n
 pub few-zeros : (n : ℕ) → n ≤ 8 → _≡_ {A = List ℕ} (take n (0 ∷ 0 ∷ 0 ∷ 0 ∷ 0 ∷ 0 ∷ 0 ∷ 0 ∷ [])) (replicate n 0)
@@ -50,13 +48,13 @@ module _ (buf : List ℕ) (pairs : List StringPair) (n : ℕ) where
   pub length-given : length ts ≡ n
   length-given = length-map (listed pairs n) (keyText buf) ∙ length-listed pairs n
 
-  given-at : (i : ℕ) → i < n → getD ts i noKeyText ≡ keyText buf (getD pairs i noPair)
+  pub given-at : (i : ℕ) → i < n → getD ts i noKeyText ≡ keyText buf (getD pairs i noPair)
   unfolding listed
   given-at i h =
       ap (λ l. getD l i noKeyText) (map-tab (keyText buf) n (λ k. getD pairs k noPair))
       ∙ getD-tab n (λ k. keyText buf (getD pairs k noPair)) i noKeyText h
 
-  text-at : (j : ℕ) → j < 2 * n → getD (texts ts) j [] ≡ textIn buf pairs j
+  pub text-at : (j : ℕ) → j < 2 * n → getD (texts ts) j [] ≡ textIn buf pairs j
   unfolding textIn keyOf keyText
   text-at j h =
       byBool (eqb (j % 2) 0)

@@ -1,8 +1,8 @@
 -- The parts of a binary, written one behind another, are the binary. Assumes nothing.
-use Prim.Native.Nat.{ℕ, _+_, _*_, _-_, _<_, _≤_}
+use Prim.Native.Nat.{ℕ, _+_, _*_, _-_, _≤_}
 use native.Mathlib.Omega.{arith}
-use mathlib.Core.Path.{_≡_, refl, sym, ap, ap₂, _∙_}
-use mathlib.Core.List.{List, [], _∷_, _++_, map, append-assoc}
+use mathlib.Core.Path.{_≡_, refl, sym, ap, _∙_}
+use mathlib.Core.List.{List, _++_, map, append-assoc}
 use lib.ListN.{length, replicate, length-append, length-replicate}
 use Rattle.wire.specs.Word.{bytesOf}
 use Rattle.wire.specs.Bytes.{overwrite}
@@ -14,7 +14,8 @@ use Rattle.offload_binary.specs.declared.StringPair.{StringPair}
 use Rattle.offload_binary.proofs.ListLaws.{length-tab}
 use Rattle.offload_binary.proofs.WrittenLaws.{up8-le, length-offsets}
 use Rattle.offload_binary_writer.specs.Writer.{given}
-use Rattle.offload_binary_writer.specs.Code.{textIn, listed, LayoutIs, headerBytes, entryFields}
+use Rattle.offload_binary_writer.specs.Code.{textIn, LayoutIs, headerBytes, entryFields}
+use Rattle.offload_binary_writer.specs.Writer.{listed}
 use Rattle.offload_binary_writer.specs.declared.Tags.{Tags}
 use Rattle.offload_binary_writer.specs.declared.Layout.{Layout}
 use Rattle.offload_binary_writer.proofs.TextLaws.{length-given, texts-are}

@@ -1,7 +1,7 @@
 -- What the private functions of the writer ensure. No public promise rests on these. Definitions only.
 use Prim.Native.Nat.{ℕ, _+_, _*_, _/_, _%_, _≤_}
 use mathlib.Core.Path.{_≡_}
-use mathlib.Core.Bool.{Bool, cond}
+use mathlib.Core.Bool.{cond}
 use mathlib.Core.List.{List, [], _∷_, _++_}
 use lib.ListN.{length, getD, take, replicate}
 use lib.Dec.{eqb}
@@ -19,13 +19,6 @@ partIn pairs j = cond (eqb (j % 2) 0) (getD pairs (j / 2) noPair .key) (getD pai
 
 unfoldable pub textIn : List ℕ → List StringPair → ℕ → List ℕ
 textIn buf pairs j = bytesAt buf (partIn pairs j)
-
--- a list's first 32 pairs in an array, and the list of n pairs that starts with an array's
-unfoldable pub gathered : List StringPair → List StringPair
-gathered pairs = take 32 (pairs ++ replicate 32 noPair)
-
-unfoldable pub listed : List StringPair → ℕ → List StringPair
-listed array n = tab n (λ i. getD array i noPair)
 
 -- where the parts of a binary stand: n pairs with the strings of f, one after another, and an image of `len` bytes
 pub record LayoutIs (f : ℕ → List ℕ) (n len : ℕ) (at : Layout) : Type 0 where

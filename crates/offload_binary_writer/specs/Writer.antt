@@ -7,6 +7,7 @@ use lib.Dec.{ltb, eqb}
 use Rattle.wire.specs.Bytes.{same}
 use Rattle.wire.specs.First.{anyBelow}
 use Rattle.wire.specs.Stop.{Stop, _⨾_, stopIf, earlier}
+use Rattle.offload_binary.specs.Lists.{tab}
 use Rattle.offload_binary.specs.Binary.{bytesAt, ended, badKinds, noPair, keyIn}
 use Rattle.offload_binary.specs.Contents.{Contents, keyText, binarySize, written, tooBig}
 use Rattle.offload_binary.specs.declared.Part.{Part}
@@ -44,6 +45,11 @@ module _ (tags : Tags) (image : List ℕ) (pairs : List StringPair) (buf : List 
       ⨾ stopIf 16 (badPairs buf pairs)
       ⨾ stopIf 11 (tooBig given)
       ⨾ stopIf 12 (ltb room (binarySize given))
+
+-- ---- the list of n pairs that an array of 32 holds the first of
+
+unfoldable pub listed : List StringPair → ℕ → List StringPair
+listed array n = tab n (λ i. getD array i noPair)
 
 -- ---- what comes back: the answer, and the lent output
 

@@ -4,13 +4,12 @@ use offload_binary::StringPair;
 ghost use mathlib.Core.Path.{_≡_};
 ghost use mathlib.Core.List.{[], _∷_, _++_};
 ghost use Prim.Native.Nat.{ℕ, _+_, _*_, _<_, _≤_};
-ghost use lib.ListN.{length, getD, set, replicate};
-ghost use Rattle.offload_binary.specs.Binary.{noPair};
+ghost use lib.ListN.{length, replicate};
 ghost use Rattle.wire.specs.Bytes.{overwrite};
 ghost use Rattle.offload_binary.specs.Lists.{tab};
 ghost use Rattle.offload_binary.specs.Contents.{fieldBytes, offsets, stringBytes, up8, written};
-ghost use Rattle.offload_binary_writer.specs.Writer.{badPart, badPair, badPairs, given, write};
-ghost use Rattle.offload_binary_writer.specs.Code.{partIn, textIn, gathered, listed, LayoutIs, headerBytes, entryFields};
+ghost use Rattle.offload_binary_writer.specs.Writer.{listed, badPart, badPair, badPairs, given, write};
+ghost use Rattle.offload_binary_writer.specs.Code.{partIn, textIn, LayoutIs, headerBytes, entryFields};
 
 // The kinds and the flags of a binary.
 pub struct Tags {
@@ -263,8 +262,8 @@ fn refused(number: usize) -> Written
     }
 }
 
-// The work, over plain data: the first 32 pairs by value, and how many the list has.
-fn write_listed(
+// Writes a binary with these kinds and flags, this image, and the strings that the pairs name parts of `buf` for: the first n pairs, of which an array holds 32.
+pub fn write_array(
     tags: Tags,
     image: &[u8],
     pairs: [StringPair; 32],
@@ -296,71 +295,4 @@ fn write_listed(
         place: 0,
         len: at.size,
     }
-}
-
-// How many pairs the list has.
-fn pair_count(pairs: &[StringPair]) -> usize
-    ensures { λ r. ⌜ r ≡ length (now (pairs .entry)) ⌝ }
-{
-    pairs.len()
-}
-
-// Pair i of the list, or the pair of no bytes past its end.
-fn pair_or_none(pairs: &[StringPair], i: usize) -> StringPair
-    ensures { λ r. ⌜ r ≡ getD (now (pairs .entry)) i noPair ⌝ }
-{
-    if i < pairs.len() {
-        pairs[i]
-    } else {
-        StringPair {
-            key: Part { start: 0, len: 0 },
-            text: Part { start: 0, len: 0 },
-        }
-    }
-}
-
-fn no_pairs() -> [StringPair; 32]
-    ensures { λ r. ⌜ r ≡ replicate 32 noPair ⌝ }
-{
-    let none = StringPair {
-        key: Part { start: 0, len: 0 },
-        text: Part { start: 0, len: 0 },
-    };
-    [none; 32]
-}
-
-// The array with x at place i.
-fn put_pair(a: [StringPair; 32], i: usize, x: StringPair) -> [StringPair; 32]
-    requires { ⌜ i < 32 ⌝ }
-    ensures { λ r. ⌜ r ≡ set a i x ⌝ }
-{
-    let mut b = a;
-    b[i] = x;
-    b
-}
-
-// The first 32 pairs of the list, and pairs of no bytes in the places that are left.
-fn gather(pairs: &[StringPair]) -> [StringPair; 32]
-    ensures { λ r. ⌜ r ≡ gathered (now (pairs .entry)) ⌝ }
-{
-    let mut a = no_pairs();
-    let mut i = 0;
-    while i < 32 {
-        a = put_pair(a, i, pair_or_none(pairs, i));
-        i += 1;
-    }
-    a
-}
-
-// Writes a binary with these kinds and flags, this image, and the strings that the pairs name parts of `strings` for.
-pub fn write_binary(
-    tags: Tags,
-    image: &[u8],
-    pairs: &[StringPair],
-    strings: &[u8],
-    out: &mut [u8],
-) -> Written
-    ensures { λ r. ⌜ (r ≡ write tags (now (image .entry)) (now (pairs .entry)) (now (strings .entry)) (now (out .entry)) .answer) × (now (out .exit) ≡ write tags (now (image .entry)) (now (pairs .entry)) (now (strings .entry)) (now (out .entry)) .out) ⌝ }
-{
-    write_listed(tags, image, gather(pairs), pair_count(pairs), strings, out)
 }

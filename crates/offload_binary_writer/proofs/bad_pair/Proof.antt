@@ -3,29 +3,21 @@ use Rattle.offload_binary_writer.proofs.PartLaws.{pair-key, pair-text, 
 use borrow.Author.Needs.{needs}
 use Rattle.offload_binary_writer.proofs.bad_pair.Statement.{statement}
 use Rattle.offload_binary_writer.proofs.bad_pair.Tie as tie
-use Rattle.offload_binary_writer.proofs.bad_pair.Reads as reads
-use Rattle.offload_binary_writer.proofs.bad_pair.Lts as lts
-use Rattle.offload_binary_writer.proofs.bad_part.Reads as bad-part-reads
 
--- src/lib.rt:59:8
 bad-part-requires : tie.Need-bad-part-requires
 bad-part-requires c κs = search needs
 
--- src/lib.rt:60:9
 returns : tie.Need-returns
 returns c =
     let a = c .before .before .before .before .before .args in pair-key (a .buf .now) (a .pair) (sym (c .before .bad-part .ensures) ∙ c .if1 .taken)
 
--- src/lib.rt:62:8
 bad-part-requires-2 : tie.Need-bad-part-requires-2
 bad-part-requires-2 c κs = search needs
 
--- src/lib.rt:63:9
 returns-2 : tie.Need-returns-2
 returns-2 c =
     let a = c .before .before .before .before .before .before .before .args in pair-text (a .buf .now) (a .pair) (sym (c .before .bad-part2 .ensures) ∙ c .if2 .taken)
 
--- src/lib.rt:54:1
 returns-3 : tie.Need-returns-3
 returns-3 c =
     let a = c .before .before .before .before .before .before .before .before .args in

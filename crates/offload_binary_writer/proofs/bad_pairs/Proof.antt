@@ -1,6 +1,6 @@
 use borrow.Author.Needs.{needs}
 use native.Mathlib.Omega.{arith}
-use Prim.Native.Nat.{ℕ, _+_, _-_, _≤_, _<_}
+use Prim.Native.Nat.{ℕ, _-_, _≤_, _<_}
 use mathlib.Core.Path.{_≡_, sym, _∙_}
 use mathlib.Core.Bool.{false}
 use lib.ListN.{getD}
@@ -10,10 +10,6 @@ use Rattle.offload_binary_writer.specs.Writer.{badPair}
 use Rattle.offload_binary_writer.proofs.CallLaws.{pairs-many, pairs-bad, pairs-keys}
 use Rattle.offload_binary_writer.proofs.bad_pairs.Statement.{statement}
 use Rattle.offload_binary_writer.proofs.bad_pairs.Tie as tie
-use Rattle.offload_binary_writer.proofs.bad_pairs.Reads as reads
-use Rattle.offload_binary_writer.proofs.bad_pairs.Lts as lts
-use Rattle.offload_binary.proofs.bad_keys.Reads as bad-keys-reads
-use Rattle.offload_binary_writer.proofs.bad_pair.Reads as bad-pair-reads
 
 abbrev Inv-loop : tie.InvT-loop
 Inv-loop buf n pairs i₀ i = (i ≤ n) × ((k : ℕ) → k < i → badPair buf (getD pairs k noPair) ≡ false)
@@ -21,50 +17,39 @@ Inv-loop buf n pairs i₀ i = (i ≤ n) × ((k : ℕ) → k < i → badPair buf 
 abbrev μ-loop : tie.MeasureT-loop
 μ-loop buf n pairs i₀ i = n - i
 
--- src/lib.rt:242:9
 returns : tie.Need-returns Inv-loop μ-loop
 returns c = let a = c .before .before .args in pairs-many (a .buf .now) (a .t2) (a .n) (c .if1 .taken)
 
--- src/lib.rt:245:5
 loop-holds : tie.Need-loop-holds Inv-loop μ-loop
 loop-holds c = (omega arith, λ k h. absurd (omega arith))
 
--- src/lib.rt:246:20
 mul-pair : tie.Need-mul-pair Inv-loop μ-loop
 mul-pair c = omega arith
 
--- src/lib.rt:246:20
 array-copy-out-pair : tie.Need-array-copy-out-pair Inv-loop μ-loop
 array-copy-out-pair c = omega arith
 
--- src/lib.rt:247:12
 bad-pair-requires : tie.Need-bad-pair-requires Inv-loop μ-loop
 bad-pair-requires c κs = search needs
 
--- src/lib.rt:248:13
 returns-2 : tie.Need-returns-2 Inv-loop μ-loop
 returns-2 c =
     let a = c .before .before .before .before .before .before .before .args in
     pairs-bad (a .buf .now) (a .t2) (a .n) (c .before .before .before .before .before .if1 .left) (c .before .before .before .before .loop .i) (omega arith) (sym (c .before .bad-pair .ensures) ∙ c .if2 .taken)
 
--- src/lib.rt:250:9
 add-i : tie.Need-add-i Inv-loop μ-loop
 add-i c = search needs
 
--- src/lib.rt:245:5
 loop-less : tie.Need-loop-less Inv-loop μ-loop
 loop-less c = search needs
 
--- src/lib.rt:245:5
 loop-again : tie.Need-loop-again Inv-loop μ-loop
 loop-again c =
     (omega arith, below-more _ _ (c .before .before .before .before .loop .inv .1) (sym (c .before .bad-pair .ensures) ∙ c .if2 .left))
 
--- src/lib.rt:252:5
 bad-keys-requires : tie.Need-bad-keys-requires Inv-loop μ-loop
 bad-keys-requires c κs = search needs
 
--- src/lib.rt:238:1
 returns-3 : tie.Need-returns-3 Inv-loop μ-loop
 returns-3 c =
     let a = c .before .before .before .before .before .args in

@@ -1,24 +1,17 @@
-use native.Mathlib.Omega.{arith}
 use Rattle.offload_binary_writer.proofs.TextLaws.{part-key, part-text}
 use borrow.Author.Needs.{needs}
 use Rattle.offload_binary_writer.proofs.part_in.Statement.{statement}
 use Rattle.offload_binary_writer.proofs.part_in.Tie as tie
-use Rattle.offload_binary_writer.proofs.part_in.Reads as reads
-use Rattle.offload_binary_writer.proofs.part_in.Lts as lts
 
--- src/lib.rt:73:16
 mul-pair : tie.Need-mul-pair
 mul-pair c = search needs
 
--- src/lib.rt:73:16
 array-copy-out-pair : tie.Need-array-copy-out-pair
 array-copy-out-pair c = search needs
 
--- src/lib.rt:75:9
 returns : tie.Need-returns
 returns c = let a = c .before .before .before .args in part-key (a .t1) (a .j) (c .before .if1 .taken)
 
--- src/lib.rt:69:1
 returns-2 : tie.Need-returns-2
 returns-2 c = let a = c .before .before .before .args in part-text (a .t1) (a .j) (c .before .if1 .left)
 

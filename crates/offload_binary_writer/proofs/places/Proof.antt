@@ -4,46 +4,33 @@ use Rattle.offload_binary_writer.proofs.WholeLaws.{up8-top}
 use borrow.Author.Needs.{needs}
 use Rattle.offload_binary_writer.proofs.places.Statement.{statement}
 use Rattle.offload_binary_writer.proofs.places.Tie as tie
-use Rattle.offload_binary_writer.proofs.places.Reads as reads
-use Rattle.offload_binary_writer.proofs.places.Lts as lts
-use Rattle.offload_binary_writer.proofs.texts_len.Reads as texts-len-reads
-use Rattle.offload_binary_writer.proofs.up_to_8.Reads as up-to-8-reads
 
--- src/lib.rt:196:24
 mul-strings : tie.Need-mul-strings
 mul-strings c = search needs
 
--- src/lib.rt:196:19
 add-strings : tie.Need-add-strings
 add-strings c = search needs
 
--- src/lib.rt:197:47
 mul-texts-len : tie.Need-mul-texts-len
 mul-texts-len c = search needs
 
--- src/lib.rt:197:25
 texts-len-requires : tie.Need-texts-len-requires
 texts-len-requires c κs = search needs
 
--- src/lib.rt:197:15
 add-end : tie.Need-add-end
 add-end c = search needs
 
--- src/lib.rt:198:9
 up-to-8-requires : tie.Need-up-to-8-requires
 up-to-8-requires c κs = search needs
 
--- src/lib.rt:199:16
 add-stop : tie.Need-add-stop
 add-stop c =
     let s = c .before .before .before in omega (arith, c .up-to-8 .ensures, up8-top (72 + 16 * s .args .n + c .before .texts-len .result), c .before .texts-len .ensures .1, s .pre .0, s .pre .1 .0)
 
--- src/lib.rt:200:9
 up-to-8-requires-2 : tie.Need-up-to-8-requires-2
 up-to-8-requires-2 c κs =
     let s = c .before .before .before in omega (arith, c .up-to-8 .ensures, up8-top (72 + 16 * s .args .n + c .before .texts-len .result), c .before .texts-len .ensures .1, s .pre .0, s .pre .1 .0)
 
--- src/lib.rt:192:1
 returns : tie.Need-returns
 returns c = search needs
 

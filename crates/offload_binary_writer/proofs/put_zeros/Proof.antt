@@ -1,33 +1,23 @@
-use mathlib.Core.Path.{_≡_, ap, _∙_}
-use lib.ListN.{replicate}
+use mathlib.Core.Path.{ap, _∙_}
 use Rattle.wire.specs.Bytes.{overwrite}
 use Rattle.offload_binary.specs.Binary.{bytesAt}
 use Rattle.offload_binary_writer.proofs.TextLaws.{few-zeros}
 use borrow.Author.Needs.{needs}
 use Rattle.offload_binary_writer.proofs.put_zeros.Statement.{statement}
 use Rattle.offload_binary_writer.proofs.put_zeros.Tie as tie
-use Rattle.offload_binary_writer.proofs.put_zeros.Reads as reads
-use Rattle.offload_binary_writer.proofs.put_zeros.Lts as lts
-use Rattle.offload_binary.proofs.bytes_at.Reads as bytes-at-reads
-use Rattle.wire.proofs.copy_at.Reads as copy-at-reads
 
--- src/lib.rt:119:34
 slice-aggregate-bytes-at : tie.Need-slice-aggregate-bytes-at
 slice-aggregate-bytes-at c = search needs
 
--- src/lib.rt:119:9
 bytes-at-requires : tie.Need-bytes-at-requires
 bytes-at-requires c κs = search needs
 
--- src/lib.rt:116:5
 copy-at-requires : tie.Need-copy-at-requires
 copy-at-requires c κs = search needs
 
--- src/lib.rt:111:1
 same-length : tie.Need-same-length
 same-length c = search needs
 
--- src/lib.rt:111:1
 returns : tie.Need-returns
 unfolding bytesAt
 returns c =

@@ -4,20 +4,13 @@ use Rattle.offload_binary_writer.specs.Code.{textIn}
 use borrow.Author.Needs.{needs}
 use Rattle.offload_binary_writer.proofs.text_in.Statement.{statement}
 use Rattle.offload_binary_writer.proofs.text_in.Tie as tie
-use Rattle.offload_binary_writer.proofs.text_in.Reads as reads
-use Rattle.offload_binary_writer.proofs.text_in.Lts as lts
-use Rattle.offload_binary.proofs.bytes_at.Reads as bytes-at-reads
-use Rattle.offload_binary_writer.proofs.part_in.Reads as part-in-reads
 
--- src/lib.rt:84:35
 part-in-requires : tie.Need-part-in-requires
 part-in-requires c κs = search needs
 
--- src/lib.rt:84:5
 bytes-at-requires : tie.Need-bytes-at-requires
 bytes-at-requires c κs = search needs
 
--- src/lib.rt:80:1
 returns : tie.Need-returns
 unfolding textIn
 returns c =

@@ -1,7 +1,7 @@
 use borrow.Author.Needs.{needs}
 use native.Mathlib.Omega.{arith}
-use Prim.Native.Nat.{ℕ, _+_, _*_, _-_, _≤_, _<_}
-use mathlib.Core.Path.{_≡_, refl, sym, ap, _∙_}
+use Prim.Native.Nat.{_*_, _-_, _≤_}
+use mathlib.Core.Path.{_≡_, sym, ap, _∙_}
 use lib.ListN.{length}
 use Rattle.offload_binary.specs.Lists.{tab}
 use Rattle.offload_binary.specs.Contents.{stringBytes}
@@ -9,9 +9,6 @@ use Rattle.offload_binary_writer.specs.Code.{textIn}
 use Rattle.offload_binary_writer.proofs.TextLaws.{strings-none, length-more}
 use Rattle.offload_binary_writer.proofs.texts_len.Statement.{statement}
 use Rattle.offload_binary_writer.proofs.texts_len.Tie as tie
-use Rattle.offload_binary_writer.proofs.texts_len.Reads as reads
-use Rattle.offload_binary_writer.proofs.texts_len.Lts as lts
-use Rattle.offload_binary_writer.proofs.text_in.Reads as text-in-reads
 
 abbrev Inv-loop : tie.InvT-loop
 Inv-loop buf pairs m at₀ j₀ at j = (j ≤ m) × ((at ≡ length (stringBytes (tab j (textIn buf pairs)))) × (at ≤ 257 * j))
@@ -19,38 +16,31 @@ Inv-loop buf pairs m at₀ j₀ at j = (j ≤ m) × ((at ≡ length (stringBytes
 abbrev μ-loop : tie.MeasureT-loop
 μ-loop buf pairs m at₀ j₀ at j = m - j
 
--- src/lib.rt:94:5
 loop-holds : tie.Need-loop-holds Inv-loop μ-loop
 loop-holds c =
     let a = c .before .args in (omega arith, (sym (ap length (strings-none (textIn (a .buf .now) (a .pairs)))), omega arith))
 
--- src/lib.rt:95:13
 text-in-requires : tie.Need-text-in-requires Inv-loop μ-loop
 text-in-requires c κs = let s = c .before .before .before in omega (arith, s .pre .0)
 
--- src/lib.rt:96:14
 add-at : tie.Need-add-at Inv-loop μ-loop
 add-at c =
     let s = c .before .before .before .before in
     let t = ap length (c .text-in .ensures) in
     omega (arith, s .pre .0, s .pre .1 (c .before .before .loop .j) (omega arith))
 
--- src/lib.rt:96:14
 add-at-2 : tie.Need-add-at-2 Inv-loop μ-loop
 add-at-2 c =
     let s = c .before .before .before .before in
     let t = ap length (c .text-in .ensures) in
     omega (arith, s .pre .0, s .pre .1 (c .before .before .loop .j) (omega arith))
 
--- src/lib.rt:97:9
 add-j : tie.Need-add-j Inv-loop μ-loop
 add-j c = search needs
 
--- src/lib.rt:94:5
 loop-less : tie.Need-loop-less Inv-loop μ-loop
 loop-less c = search needs
 
--- src/lib.rt:94:5
 loop-again : tie.Need-loop-again Inv-loop μ-loop
 loop-again c =
     let s = c .before .before .before .before in
@@ -59,7 +49,6 @@ loop-again c =
     let n = length-more (textIn (s .args .buf .now) (s .args .pairs)) (l .j) in
     (omega arith, (omega arith, omega (arith, s .pre .1 (l .j) (omega arith))))
 
--- src/lib.rt:88:1
 returns : tie.Need-returns Inv-loop μ-loop
 returns c =
     let a = c .before .before .before .args in

@@ -6,49 +6,34 @@ use Rattle.offload_binary_writer.proofs.WriteLaws.{lays, entry-lays}
 use borrow.Author.Needs.{needs}
 use Rattle.offload_binary_writer.proofs.write_entry.Statement.{statement}
 use Rattle.offload_binary_writer.proofs.write_entry.Tie as tie
-use Rattle.offload_binary_writer.proofs.write_entry.Reads as reads
-use Rattle.offload_binary_writer.proofs.write_entry.Lts as lts
-use Rattle.wire.proofs.put_word2.Reads as put-word2-reads
-use Rattle.wire.proofs.put_word4.Reads as put-word4-reads
-use Rattle.wire.proofs.put_word8.Reads as put-word8-reads
 
--- src/lib.rt:150:17
 cast-flags : tie.Need-cast-flags
 cast-flags c = search needs
 
--- src/lib.rt:151:5
 put-word2-requires : tie.Need-put-word2-requires
 put-word2-requires c κs = search needs
 
--- src/lib.rt:152:5
 put-word2-requires-2 : tie.Need-put-word2-requires-2
 put-word2-requires-2 c κs = search needs
 
--- src/lib.rt:153:5
 put-word4-requires : tie.Need-put-word4-requires
 put-word4-requires c κs = search needs
 
--- src/lib.rt:154:5
 put-word8-requires : tie.Need-put-word8-requires
 put-word8-requires c κs = search needs
 
--- src/lib.rt:155:5
 put-word8-requires-2 : tie.Need-put-word8-requires-2
 put-word8-requires-2 c κs = search needs
 
--- src/lib.rt:156:5
 put-word8-requires-3 : tie.Need-put-word8-requires-3
 put-word8-requires-3 c κs = search needs
 
--- src/lib.rt:157:5
 put-word8-requires-4 : tie.Need-put-word8-requires-4
 put-word8-requires-4 c κs = search needs
 
--- src/lib.rt:146:1
 same-length : tie.Need-same-length
 same-length c = search needs
 
--- src/lib.rt:146:1
 returns : tie.Need-returns
 unfolding lays entryFields
 returns c =

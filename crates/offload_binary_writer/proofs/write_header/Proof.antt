@@ -5,41 +5,28 @@ use Rattle.offload_binary_writer.proofs.WriteLaws.{lays, header-lays}
 use borrow.Author.Needs.{needs}
 use Rattle.offload_binary_writer.proofs.write_header.Statement.{statement}
 use Rattle.offload_binary_writer.proofs.write_header.Tie as tie
-use Rattle.offload_binary_writer.proofs.write_header.Reads as reads
-use Rattle.offload_binary_writer.proofs.write_header.Lts as lts
-use Rattle.wire.proofs.copy_at.Reads as copy-at-reads
-use Rattle.wire.proofs.put_word4.Reads as put-word4-reads
-use Rattle.wire.proofs.put_word8.Reads as put-word8-reads
 
--- src/lib.rt:138:27
 slice-aggregate-copy-at : tie.Need-slice-aggregate-copy-at
 slice-aggregate-copy-at c = search needs
 
--- src/lib.rt:138:5
 copy-at-requires : tie.Need-copy-at-requires
 copy-at-requires c κs = search needs
 
--- src/lib.rt:139:5
 put-word4-requires : tie.Need-put-word4-requires
 put-word4-requires c κs = search needs
 
--- src/lib.rt:140:5
 put-word8-requires : tie.Need-put-word8-requires
 put-word8-requires c κs = search needs
 
--- src/lib.rt:141:5
 put-word8-requires-2 : tie.Need-put-word8-requires-2
 put-word8-requires-2 c κs = search needs
 
--- src/lib.rt:142:5
 put-word8-requires-3 : tie.Need-put-word8-requires-3
 put-word8-requires-3 c κs = search needs
 
--- src/lib.rt:133:1
 same-length : tie.Need-same-length
 same-length c = search needs
 
--- src/lib.rt:133:1
 returns : tie.Need-returns
 unfolding lays
 returns c =

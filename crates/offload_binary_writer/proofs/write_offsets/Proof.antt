@@ -1,6 +1,6 @@
 use borrow.Author.Needs.{needs}
 use native.Mathlib.Omega.{arith}
-use Prim.Native.Nat.{ℕ, _+_, _*_, _-_, _≤_, _<_}
+use Prim.Native.Nat.{_+_, _*_, _-_, _≤_}
 use mathlib.Core.Path.{_≡_, refl, sym, ap, _∙_}
 use lib.ListN.{length}
 use Rattle.wire.specs.Bytes.{overwrite}
@@ -12,10 +12,6 @@ use Rattle.offload_binary_writer.proofs.TextLaws.{strings-none, offsets
 use Rattle.offload_binary_writer.proofs.WriteLaws.{offsets-turn}
 use Rattle.offload_binary_writer.proofs.write_offsets.Statement.{statement}
 use Rattle.offload_binary_writer.proofs.write_offsets.Tie as tie
-use Rattle.offload_binary_writer.proofs.write_offsets.Reads as reads
-use Rattle.offload_binary_writer.proofs.write_offsets.Lts as lts
-use Rattle.offload_binary_writer.proofs.text_in.Reads as text-in-reads
-use Rattle.wire.proofs.put_word8.Reads as put-word8-reads
 
 abbrev Inv-loop : tie.InvT-loop
 Inv-loop out₀ buf pairs m first at₀ j₀ out at j =
@@ -24,30 +20,24 @@ Inv-loop out₀ buf pairs m first at₀ j₀ out at j =
 abbrev μ-loop : tie.MeasureT-loop
 μ-loop out₀ buf pairs m first at₀ j₀ out at j = m - j
 
--- src/lib.rt:167:5
 loop-holds : tie.Need-loop-holds Inv-loop μ-loop
 loop-holds c =
     let a = c .before .before .args in
     let f = textIn (a .buf .now) (a .pairs) in
     (omega arith, (omega (arith, ap length (strings-none f)), (omega arith, (sym (ap (overwrite (a .out .now) 72) (offsets-none f (a .first)) ∙ overwrite-nil (a .out .now) 72), refl))))
 
--- src/lib.rt:168:13
 text-in-requires : tie.Need-text-in-requires Inv-loop μ-loop
 text-in-requires c κs = let s = c .before .before .before .before in omega (arith, s .pre .1 .0)
 
--- src/lib.rt:169:26
 mul-place : tie.Need-mul-place Inv-loop μ-loop
 mul-place c = let s = c .before .before .before .before .before in omega (arith, s .pre .1 .0)
 
--- src/lib.rt:169:21
 add-place : tie.Need-add-place Inv-loop μ-loop
 add-place c = let s = c .before .before .before .before .before in omega (arith, s .pre .1 .0)
 
--- src/lib.rt:170:9
 put-word8-requires : tie.Need-put-word8-requires Inv-loop μ-loop
 put-word8-requires c κs = search needs
 
--- src/lib.rt:171:14
 add-at : tie.Need-add-at Inv-loop μ-loop
 add-at c =
     let s = c .before .before .before .before .before .before .before .before .before in
@@ -55,7 +45,6 @@ add-at c =
     let t = ap length (c .before .before .before .before .text-in .ensures) in
     omega (arith, s .pre .1 .0, s .pre .1 .1 .0, s .pre .1 .1 .1 (l .j) (omega arith))
 
--- src/lib.rt:171:14
 add-at-2 : tie.Need-add-at-2 Inv-loop μ-loop
 add-at-2 c =
     let s = c .before .before .before .before .before .before .before .before .before in
@@ -63,15 +52,12 @@ add-at-2 c =
     let t = ap length (c .before .before .before .before .text-in .ensures) in
     omega (arith, s .pre .1 .0, s .pre .1 .1 .0, s .pre .1 .1 .1 (l .j) (omega arith))
 
--- src/lib.rt:172:9
 add-j : tie.Need-add-j Inv-loop μ-loop
 add-j c = search needs
 
--- src/lib.rt:167:5
 loop-less : tie.Need-loop-less Inv-loop μ-loop
 loop-less c = search needs
 
--- src/lib.rt:167:5
 loop-again : tie.Need-loop-again Inv-loop μ-loop
 loop-again c =
     let s = c .before .before .before .before .before .before .before .before .before in
@@ -90,11 +76,9 @@ loop-again c =
       ),
     )
 
--- src/lib.rt:161:1
 same-length : tie.Need-same-length Inv-loop μ-loop
 same-length c = c .before .loop .inv .1 .1 .1 .1
 
--- src/lib.rt:161:1
 returns : tie.Need-returns Inv-loop μ-loop
 returns c =
     let a = c .before .before .before .before .args in

@@ -1,25 +1,16 @@
 use native.Mathlib.Omega.{arith}
-use Prim.Native.Nat.{ℕ, _+_, _*_, _-_, _<_, _≤_}
-use mathlib.Core.Path.{_≡_, refl, sym, ap, _∙_}
+use Prim.Native.Nat.{_*_, _-_}
+use mathlib.Core.Path.{ap, _∙_}
 use lib.ListN.{length, replicate}
 use Rattle.wire.specs.Bytes.{overwrite}
 use Rattle.offload_binary.specs.Lists.{tab}
 use Rattle.offload_binary.specs.Contents.{fieldBytes, offsets, stringBytes}
-use Rattle.offload_binary_writer.specs.Code.{textIn, headerBytes, entryFields}
-use Rattle.offload_binary_writer.proofs.WholeLaws.{Ordered, ordered, whole}
+use Rattle.offload_binary_writer.specs.Code.{textIn, entryFields}
+use Rattle.offload_binary_writer.proofs.WholeLaws.{ordered, whole}
 use borrow.Author.Needs.{needs}
 use Rattle.offload_binary_writer.proofs.write_parts.Statement.{statement}
 use Rattle.offload_binary_writer.proofs.write_parts.Tie as tie
-use Rattle.offload_binary_writer.proofs.write_parts.Reads as reads
-use Rattle.offload_binary_writer.proofs.write_parts.Lts as lts
-use Rattle.offload_binary_writer.proofs.put_zeros.Reads as put-zeros-reads
-use Rattle.offload_binary_writer.proofs.write_entry.Reads as write-entry-reads
-use Rattle.offload_binary_writer.proofs.write_header.Reads as write-header-reads
-use Rattle.offload_binary_writer.proofs.write_offsets.Reads as write-offsets-reads
-use Rattle.offload_binary_writer.proofs.write_texts.Reads as write-texts-reads
-use Rattle.wire.proofs.copy_at.Reads as copy-at-reads
 
--- src/lib.rt:228:5
 write-header-requires : tie.Need-write-header-requires
 write-header-requires c κs =
     let s = c .before .before .before .before in
@@ -27,7 +18,6 @@ write-header-requires c κs =
     let o = ordered (a .tags) (a .image .now) (a .pairs) (a .n) (a .buf .now) (a .at) (s .pre .1 .0) in
     omega (arith, s .pre .1 .1 .0)
 
--- src/lib.rt:229:5
 write-entry-requires : tie.Need-write-entry-requires
 write-entry-requires c κs =
     let s = c .before .before .before .before .before .before .before .before in
@@ -36,11 +26,9 @@ write-entry-requires c κs =
     let k1 = c .before .before .before .write-header .kept .0 in
     omega (arith, s .pre .1 .1 .0)
 
--- src/lib.rt:230:36
 mul-write-offsets : tie.Need-mul-write-offsets
 mul-write-offsets c = search needs
 
--- src/lib.rt:230:5
 write-offsets-requires : tie.Need-write-offsets-requires
 write-offsets-requires c κs =
     let s = c .before .before .before .before .before .before .before .before .before .before .before .before in
@@ -50,11 +38,9 @@ write-offsets-requires c κs =
     let k2 = c .before .before .before .before .before .before .before .write-header .kept .0 in
     (omega (arith, s .pre .1 .1 .0), (omega (arith, s .pre .0), (omega (arith, s .pre .0), s .pre .1 .1 .1)))
 
--- src/lib.rt:231:34
 mul-write-texts : tie.Need-mul-write-texts
 mul-write-texts c = search needs
 
--- src/lib.rt:231:5
 write-texts-requires : tie.Need-write-texts-requires
 write-texts-requires c κs =
     let s = c .before .before .before .before .before .before .before .before .before .before .before .before .before .before .before .before in
@@ -65,7 +51,6 @@ write-texts-requires c κs =
     let k3 = c .before .before .before .before .before .before .before .before .before .before .before .write-header .kept .0 in
     (omega (arith, s .pre .1 .1 .0), omega (arith, s .pre .0))
 
--- src/lib.rt:232:25
 sub-put-zeros : tie.Need-sub-put-zeros
 sub-put-zeros c =
     let s = c .before .before .before .before .before .before .before .before .before .before .before .before .before .before .before .before .before .before .before .before in
@@ -73,7 +58,6 @@ sub-put-zeros c =
     let o = ordered (a .tags) (a .image .now) (a .pairs) (a .n) (a .buf .now) (a .at) (s .pre .1 .0) in
     omega arith
 
--- src/lib.rt:232:5
 put-zeros-requires : tie.Need-put-zeros-requires
 put-zeros-requires c κs =
     let s = c .before .before .before .before .before .before .before .before .before .before .before .before .before .before .before .before .before .before .before .before in
@@ -81,11 +65,9 @@ put-zeros-requires c κs =
     let o = ordered (a .tags) (a .image .now) (a .pairs) (a .n) (a .buf .now) (a .at) (s .pre .1 .0) in
     omega arith
 
--- src/lib.rt:233:5
 copy-at-requires : tie.Need-copy-at-requires
 copy-at-requires c κs = search needs
 
--- src/lib.rt:234:26
 sub-put-zeros-2 : tie.Need-sub-put-zeros-2
 sub-put-zeros-2 c =
     let s = c .before .before .before .before .before .before .before .before .before .before .before .before .before .before .before .before .before .before .before .before .before .before .before .before .before .before .before .before in
@@ -93,7 +75,6 @@ sub-put-zeros-2 c =
     let o = ordered (a .tags) (a .image .now) (a .pairs) (a .n) (a .buf .now) (a .at) (s .pre .1 .0) in
     omega arith
 
--- src/lib.rt:234:5
 put-zeros-requires-2 : tie.Need-put-zeros-requires-2
 put-zeros-requires-2 c κs =
     let s = c .before .before .before .before .before .before .before .before .before .before .before .before .before .before .before .before .before .before .before .before .before .before .before .before .before .before .before .before in
@@ -101,11 +82,9 @@ put-zeros-requires-2 c κs =
     let o = ordered (a .tags) (a .image .now) (a .pairs) (a .n) (a .buf .now) (a .at) (s .pre .1 .0) in
     omega arith
 
--- src/lib.rt:211:1
 same-length : tie.Need-same-length
 same-length c = search needs
 
--- src/lib.rt:211:1
 returns : tie.Need-returns
 returns c =
     let s = c .before .before .before .before .before .before .before .before .before .before .before .before .before .before .before .before .before .before .before .before .before .before .before .before .before .before .before .before .before .before .before in

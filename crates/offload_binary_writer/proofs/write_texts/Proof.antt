@@ -1,21 +1,17 @@
 use borrow.Author.Needs.{needs}
 use native.Mathlib.Omega.{arith}
-use Prim.Native.Nat.{ℕ, _+_, _*_, _-_, _≤_, _<_}
+use Prim.Native.Nat.{_+_, _-_, _≤_}
 use mathlib.Core.Path.{_≡_, refl, sym, ap, _∙_}
 use lib.ListN.{length}
 use Rattle.wire.specs.Bytes.{overwrite}
 use Rattle.wire.proofs.OverwriteLaws.{overwrite-nil}
 use Rattle.offload_binary.specs.Lists.{tab}
-use Rattle.offload_binary.specs.Contents.{fieldBytes, offsets, stringBytes}
+use Rattle.offload_binary.specs.Contents.{stringBytes}
 use Rattle.offload_binary_writer.specs.Code.{textIn}
-use Rattle.offload_binary_writer.proofs.TextLaws.{strings-none, offsets-none, length-more}
+use Rattle.offload_binary_writer.proofs.TextLaws.{strings-none, length-more}
 use Rattle.offload_binary_writer.proofs.WriteLaws.{strings-room, strings-turn}
 use Rattle.offload_binary_writer.proofs.write_texts.Statement.{statement}
 use Rattle.offload_binary_writer.proofs.write_texts.Tie as tie
-use Rattle.offload_binary_writer.proofs.write_texts.Reads as reads
-use Rattle.offload_binary_writer.proofs.write_texts.Lts as lts
-use Rattle.offload_binary_writer.proofs.put_text.Reads as put-text-reads
-use Rattle.offload_binary_writer.proofs.text_in.Reads as text-in-reads
 
 abbrev Inv-loop : tie.InvT-loop
 Inv-loop out₀ buf pairs m first at₀ j₀ out at j =
@@ -24,18 +20,15 @@ Inv-loop out₀ buf pairs m first at₀ j₀ out at j =
 abbrev μ-loop : tie.MeasureT-loop
 μ-loop out₀ buf pairs m first at₀ j₀ out at j = m - j
 
--- src/lib.rt:183:5
 loop-holds : tie.Need-loop-holds Inv-loop μ-loop
 loop-holds c =
     let a = c .before .before .args in
     let f = textIn (a .buf .now) (a .pairs) in
     (omega arith, (omega (arith, ap length (strings-none f)), (sym (ap (overwrite (a .out .now) (a .first)) (strings-none f) ∙ overwrite-nil (a .out .now) (a .first)), refl)))
 
--- src/lib.rt:184:13
 text-in-requires : tie.Need-text-in-requires Inv-loop μ-loop
 text-in-requires c κs = let s = c .before .before .before .before in omega (arith, s .pre .1)
 
--- src/lib.rt:185:9
 put-text-requires : tie.Need-put-text-requires Inv-loop μ-loop
 put-text-requires c κs =
     let s = c .before .before .before .before .before .before in
@@ -44,7 +37,6 @@ put-text-requires c κs =
     let f = textIn (s .args .buf .now) (s .args .pairs) in
     omega (arith, l .inv .1 .0, l .inv .1 .1 .1, strings-room (s .args .out .now) f (s .args .first) (l .j) (s .args .m) (omega arith) (s .pre .0))
 
--- src/lib.rt:186:14
 add-at : tie.Need-add-at Inv-loop μ-loop
 add-at c =
     let s = c .before .before .before .before .before .before .before .before .before in
@@ -53,7 +45,6 @@ add-at c =
     let f = textIn (s .args .buf .now) (s .args .pairs) in
     omega (arith, strings-room (s .args .out .now) f (s .args .first) (l .j) (s .args .m) (omega arith) (s .pre .0))
 
--- src/lib.rt:186:14
 add-at-2 : tie.Need-add-at-2 Inv-loop μ-loop
 add-at-2 c =
     let s = c .before .before .before .before .before .before .before .before .before in
@@ -62,15 +53,12 @@ add-at-2 c =
     let f = textIn (s .args .buf .now) (s .args .pairs) in
     omega (arith, strings-room (s .args .out .now) f (s .args .first) (l .j) (s .args .m) (omega arith) (s .pre .0))
 
--- src/lib.rt:187:9
 add-j : tie.Need-add-j Inv-loop μ-loop
 add-j c = search needs
 
--- src/lib.rt:183:5
 loop-less : tie.Need-loop-less Inv-loop μ-loop
 loop-less c = search needs
 
--- src/lib.rt:183:5
 loop-again : tie.Need-loop-again Inv-loop μ-loop
 loop-again c =
     let s = c .before .before .before .before .before .before .before .before .before in
@@ -87,11 +75,9 @@ loop-again c =
       ),
     )
 
--- src/lib.rt:177:1
 same-length : tie.Need-same-length Inv-loop μ-loop
 same-length c = c .before .loop .inv .1 .1 .1
 
--- src/lib.rt:177:1
 returns : tie.Need-returns Inv-loop μ-loop
 returns c =
     let a = c .before .before .before .before .args in

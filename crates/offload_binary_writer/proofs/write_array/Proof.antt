@@ -1,54 +1,39 @@
 use native.Mathlib.Omega.{arith}
-use mathlib.Core.Path.{_≡_, sym, _∙_}
-use Rattle.offload_binary_writer.specs.Code.{listed}
+use mathlib.Core.Path.{sym, _∙_}
+use Rattle.offload_binary_writer.specs.Writer.{listed}
 use Rattle.offload_binary_writer.proofs.WholeLaws.{size-is}
 use Rattle.offload_binary_writer.proofs.CallLaws.{few-pairs, short-texts, call-kinds, call-pairs, call-big, image-big, call-room, call-good}
 use borrow.Author.Needs.{needs}
-use Rattle.offload_binary_writer.proofs.write_listed.Statement.{statement}
-use Rattle.offload_binary_writer.proofs.write_listed.Tie as tie
-use Rattle.offload_binary_writer.proofs.write_listed.Reads as reads
-use Rattle.offload_binary_writer.proofs.write_listed.Lts as lts
-use Rattle.offload_binary.proofs.bad_kinds.Reads as bad-kinds-reads
-use Rattle.offload_binary_writer.proofs.bad_pairs.Reads as bad-pairs-reads
-use Rattle.offload_binary_writer.proofs.places.Reads as places-reads
-use Rattle.offload_binary_writer.proofs.refused.Reads as refused-reads
-use Rattle.offload_binary_writer.proofs.write_parts.Reads as write-parts-reads
+use Rattle.offload_binary_writer.proofs.write_array.Statement.{statement}
+use Rattle.offload_binary_writer.proofs.write_array.Tie as tie
 
--- src/lib.rt:276:8
 bad-kinds-requires : tie.Need-bad-kinds-requires
 bad-kinds-requires c κs = search needs
 
--- src/lib.rt:277:9
 refused-requires : tie.Need-refused-requires
 refused-requires c κs = search needs
 
--- src/lib.rt:277:9
 returns : tie.Need-returns
 returns c =
     let a = c .before .before .before .before .before .before .args in
     let k = sym (c .before .before .bad-kinds .ensures) ∙ c .before .if1 .taken in
     call-kinds (a .tags) (a .image .now) (listed (a .pairs) (a .n)) (a .buf .now) (a .out .now) k (c .refused .result) (c .refused .ensures)
 
--- src/lib.rt:279:8
 bad-pairs-requires : tie.Need-bad-pairs-requires
 bad-pairs-requires c κs = search needs
 
--- src/lib.rt:280:9
 refused-requires-2 : tie.Need-refused-requires-2
 refused-requires-2 c κs = search needs
 
--- src/lib.rt:280:9
 returns-2 : tie.Need-returns-2
 returns-2 c =
     let a = c .before .before .before .before .before .before .before .before .args in
     let k = sym (c .before .before .before .before .bad-kinds .ensures) ∙ c .before .before .before .if1 .left in
     call-pairs (a .tags) (a .image .now) (listed (a .pairs) (a .n)) (a .buf .now) (a .out .now) k (sym (c .before .before .bad-pairs .ensures) ∙ c .before .if2 .taken) (c .refused2 .result) (c .refused2 .ensures)
 
--- src/lib.rt:283:9
 refused-requires-3 : tie.Need-refused-requires-3
 refused-requires-3 c κs = search needs
 
--- src/lib.rt:283:9
 returns-3 : tie.Need-returns-3
 returns-3 c =
     let a = c .before .before .before .before .before .before .before .before .before .args in
@@ -56,18 +41,15 @@ returns-3 c =
     let p = sym (c .before .before .before .bad-pairs .ensures) ∙ c .before .before .if2 .left in
     call-big (a .tags) (a .image .now) (listed (a .pairs) (a .n)) (a .buf .now) (a .out .now) k p (image-big (a .tags) (a .image .now) (listed (a .pairs) (a .n)) (a .buf .now) (a .out .now) k p (c .before .if3 .taken)) (c .refused3 .result) (c .refused3 .ensures)
 
--- src/lib.rt:285:9
 places-requires : tie.Need-places-requires
 places-requires c κs =
     let a = c .before .before .before .before .before .before .before .before .args in
     let p = sym (c .before .before .bad-pairs .ensures) ∙ c .before .if2 .left in
     (few-pairs (a .buf .now) (a .pairs) (a .n) p, (omega arith, short-texts (a .buf .now) (a .pairs) (a .n) p))
 
--- src/lib.rt:287:9
 refused-requires-4 : tie.Need-refused-requires-4
 refused-requires-4 c κs = search needs
 
--- src/lib.rt:287:9
 returns-4 : tie.Need-returns-4
 returns-4 c =
     let a = c .before .before .before .before .before .before .before .before .before .before .before .before .args in
@@ -75,11 +57,9 @@ returns-4 c =
     let z = size-is (a .tags) (a .image .now) (a .pairs) (a .n) (a .buf .now) (c .before .before .before .places .result) (c .before .before .before .places .ensures) in
     call-big (a .tags) (a .image .now) (listed (a .pairs) (a .n)) (a .buf .now) (a .out .now) k (sym (c .before .before .before .before .before .before .bad-pairs .ensures) ∙ c .before .before .before .before .before .if2 .left) (omega arith) (c .refused4 .result) (c .refused4 .ensures)
 
--- src/lib.rt:290:9
 refused-requires-5 : tie.Need-refused-requires-5
 refused-requires-5 c κs = search needs
 
--- src/lib.rt:290:9
 returns-5 : tie.Need-returns-5
 returns-5 c =
     let a = c .before .before .before .before .before .before .before .before .before .before .before .before .before .before .args in
@@ -87,18 +67,15 @@ returns-5 c =
     let z = size-is (a .tags) (a .image .now) (a .pairs) (a .n) (a .buf .now) (c .before .before .before .before .before .places .result) (c .before .before .before .before .before .places .ensures) in
     call-room (a .tags) (a .image .now) (listed (a .pairs) (a .n)) (a .buf .now) (a .out .now) k (sym (c .before .before .before .before .before .before .before .before .bad-pairs .ensures) ∙ c .before .before .before .before .before .before .before .if2 .left) (omega arith) (omega arith) (c .refused5 .result) (c .refused5 .ensures)
 
--- src/lib.rt:292:5
 write-parts-requires : tie.Need-write-parts-requires
 write-parts-requires c κs =
     let a = c .before .before .before .before .before .before .before .before .before .before .before .before .before .before .args in
     let p = sym (c .before .before .before .before .before .before .before .before .bad-pairs .ensures) ∙ c .before .before .before .before .before .before .before .if2 .left in
     (few-pairs (a .buf .now) (a .pairs) (a .n) p, (c .before .before .before .before .before .places .ensures, (omega arith, short-texts (a .buf .now) (a .pairs) (a .n) p)))
 
--- src/lib.rt:266:1
 same-length : tie.Need-same-length
 same-length c = search needs
 
--- src/lib.rt:266:1
 returns-6 : tie.Need-returns-6
 returns-6 c =
     let a = c .before .before .before .before .before .before .before .before .before .before .before .before .before .before .before .before .before .args in
@@ -106,8 +83,8 @@ returns-6 c =
     let z = size-is (a .tags) (a .image .now) (a .pairs) (a .n) (a .buf .now) (c .before .before .before .before .before .before .before .before .places .result) (c .before .before .before .before .before .before .before .before .places .ensures) in
     call-good (a .tags) (a .image .now) (listed (a .pairs) (a .n)) (a .buf .now) (a .out .now) k (sym (c .before .before .before .before .before .before .before .before .before .before .before .bad-pairs .ensures) ∙ c .before .before .before .before .before .before .before .before .before .before .if2 .left) (omega arith) (omega arith) (c .before .before .before .before .before .before .before .before .places .result .size) (sym z) (c .before .before .write-parts .last .0) (c .before .before .write-parts .ensures)
 
-pub write-listed-spec : {M : Type 1} → statement M
-write-listed-spec =
+pub write-array-spec : {M : Type 1} → statement M
+write-array-spec =
     tie.close
     (tie.spec
     bad-kinds-requires

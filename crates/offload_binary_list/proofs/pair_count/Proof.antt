@@ -34,10 +34,10 @@ use denote.Triple.Walked.{says, Stays, stay-none-slice, walkOf, goes-none-slice,
 use denote.Exit.{yes}
 use Rattle.offload_binary.specs.declared.StringPair.{StringPair}
 use Rattle.offload_binary.proofs.StringPair as T
-use Rattle.offload_binary_writer.proofs.pair_count.Key.{name as #pair-count}
-use Rattle.offload_binary_writer.proofs.pair_count as count
-use Rattle.offload_binary_writer.proofs.pair_count.Statement as stated
-use Rattle.offload_binary_writer.proofs.pair_count.Code as code
+use Rattle.offload_binary_list.proofs.pair_count.Key.{name as #pair-count}
+use Rattle.offload_binary_list.proofs.pair_count as count
+use Rattle.offload_binary_list.proofs.pair_count.Statement as stated
+use Rattle.offload_binary_list.proofs.pair_count.Code as code
 
 abbrev R : RattleType
 R = T.the-row

@@ -45,11 +45,11 @@ use Rattle.offload_binary.proofs.Part as P
 use Rattle.offload_binary.proofs.Part.Laws as P′
 use Rattle.offload_binary.proofs.StringPair as T
 use Rattle.offload_binary.proofs.StringPair.Laws as T′
-use Rattle.offload_binary_writer.proofs.pair_or_none.Key.{name as #pair-or-none}
-use Rattle.offload_binary_writer.proofs.pair_or_none as or0
-use Rattle.offload_binary_writer.proofs.pair_or_none.Statement as stated
-use Rattle.offload_binary_writer.proofs.pair_or_none.Code as code
-use Rattle.offload_binary_writer.proofs.pair_or_none.Code.Mir as pieces
+use Rattle.offload_binary_list.proofs.pair_or_none.Key.{name as #pair-or-none}
+use Rattle.offload_binary_list.proofs.pair_or_none as or0
+use Rattle.offload_binary_list.proofs.pair_or_none.Statement as stated
+use Rattle.offload_binary_list.proofs.pair_or_none.Code as code
+use Rattle.offload_binary_list.proofs.pair_or_none.Code.Mir as pieces
 
 abbrev R : RattleType
 R = T.the-row

@@ -4,6 +4,7 @@
 --     sofar-all        after 32 turns they are `gathered ys`
 --     gathered-at      record i of `gathered ys`, for i below 32, is record i of ys, or the pair of no bytes past its end
 --     gathered-length  there are 32
+--     listed-all, write-gathered   what the writer makes of the array is what it makes of the list
 -- Assumes nothing.
 use mathlib.Core.Path.{_≡_, refl, sym, _∙_, ap, subst}
 use Prim.Native.Nat.{ℕ, zero, suc, _+_, _<_, _≤_}
@@ -13,9 +14,19 @@ use native.Mathlib.Omega.{arith}
 use mathlib.Core.List.{List, [], _∷_, _++_}
 use mathlib.Core.Logic.{⊎-elim}
 use lib.Dec.{lit≤}
-use lib.ListN.{length, getD, set, replicate, take, length-set, length-replicate, length-append}
+use lib.ListN.{length, getD, set, replicate, length-set, length-replicate, length-append}
 use lib.Seq.{ext-getD, getD-set-same, getD-set-other, getD-take, length-take-le}
-use Rattle.offload_binary_writer.specs.Code.{gathered}
+use lib.Dec.{leb}
+use borrow.Author.Tests.{leb-true, leb-false}
+use Rattle.wire.proofs.Bools.{byBool}
+use Rattle.offload_binary.specs.Lists.{tab}
+use Rattle.offload_binary.proofs.ListLaws.{length-tab, getD-tab}
+use Rattle.offload_binary_writer.specs.Writer.{write}
+use Rattle.offload_binary_list.specs.Code.{gathered}
+use Rattle.offload_binary_writer.specs.Writer.{listed}
+use Rattle.offload_binary_writer.specs.declared.Tags.{Tags}
+use Rattle.offload_binary_writer.proofs.TextLaws.{length-listed}
+use Rattle.offload_binary_writer.proofs.CallLaws.{call-many}
 use Rattle.offload_binary.specs.Binary.{noPair}
 use Rattle.offload_binary.specs.declared.StringPair.{StringPair}
 
@@ -70,3 +81,20 @@ sofar-all ys i e =
     ap (sofar ys) e
     ∙ ext-getD noPair (sofar ys 32) (gathered ys) (sofar-length ys 32 ∙ sym (gathered-length ys))
     (λ j l. sofar-at ys 32 j (lit≤ tt) (subst (λ (n : ℕ). j < n) (sofar-length ys 32) l) ∙ sym (gathered-at ys j (subst (λ (n : ℕ). j < n) (sofar-length ys 32) l)))
+
+-- a list of at most 32 pairs is what its array lists; of a longer one the writer asks only its length
+pub listed-all : (ys : List StringPair) → length ys ≤ 32 → listed (gathered ys) (length ys) ≡ ys
+unfolding listed
+listed-all ys few =
+    ext-getD noPair (tab (length ys) (λ i. getD (gathered ys) i noPair)) ys (length-tab (length ys) _)
+    (λ j l. let h : j < length ys = omega (arith, length-tab (length ys) (λ i. getD (gathered ys) i noPair)) in
+    getD-tab (length ys) (λ i. getD (gathered ys) i noPair) j noPair h ∙ gathered-at ys j (omega arith))
+
+pub write-gathered : (tags : Tags) (image : List ℕ) (ys : List StringPair) (buf out : List ℕ) → write tags image (listed (gathered ys) (length ys)) buf out ≡ write tags image ys buf out
+write-gathered tags image ys buf out =
+    byBool (leb (length ys) 32)
+    (λ t. ap (λ l. write tags image l buf out) (listed-all ys (leb-true _ _ t)))
+    (λ f.
+    let many : 32 < length ys = leb-false _ _ f in
+    call-many tags image (listed (gathered ys) (length ys)) buf out (omega (arith, length-listed (gathered ys) (length ys)))
+    ∙ sym (call-many tags image ys buf out many))
