@@ -46,7 +46,7 @@ calls: library
 # The library against the second program: the same rules, written a second time.
 compare: library
 	$(CARGO) test $(SECOND) --lib
-	$(CARGO) build $(SECOND) --features linked
+	$(CARGO) build $(SECOND) --features normalise
 	second/target/release/compare
 
 # The tool, and a test that uses it as a person would.

@@ -37,13 +37,13 @@ loop-less c = omega arith
 
 -- src/lib.rt:264:5
 loop-again : tie.Need-loop-again Inv-loop μ-loop
-loop-again c = 
+loop-again c =
     let l = c .before .loop in (
       omega arith,
       simp length-set (l .inv .1),
       below-more _ (l .k)
-      (λ q h. getD-set-other (l .order) (l .k) q (l .k) 0 (λ (e : q ≡ l .k). omega arith) ∙ l .inv .2 q h)
-      (getD-set-same (l .order) (l .k) (l .k) 0 (omega arith)),
+          (λ q h. getD-set-other (l .order) (l .k) q (l .k) 0 (λ (e : q ≡ l .k). omega arith) ∙ l .inv .2 q h)
+          (getD-set-same (l .order) (l .k) (l .k) 0 (omega arith)),
     )
 
 -- src/lib.rt:259:1

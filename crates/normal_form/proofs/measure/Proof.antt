@@ -32,7 +32,7 @@ array-copy-out-r c = omega arith
 -- src/lib.rt:73:13
 returns : tie.Need-returns Inv-loop μ-loop
 unfolding recordAt
-returns c = 
+returns c =
     let a = c .before .before .before .before .args in
     let s = sum-room (entryLength (a .t1) (a .lens .now)) (a .n) (c .before .before .before .loop .i) (omega arith) in
     record { all-is = capped-over _ (omega (arith, s, c .if1 .taken)); end-is = λ h. absurd (omega arith) }
@@ -64,7 +64,7 @@ add-all-2 c = omega (arith, c .before .before .before .before .before .pre .2 (c
 -- src/lib.rt:82:13
 returns-2 : tie.Need-returns-2 Inv-loop μ-loop
 unfolding recordAt
-returns-2 c = 
+returns-2 c =
     let a = c .before .before .before .before .before .before .args in
     let s = sum-room (entryLength (a .t1) (a .lens .now)) (a .n) (c .before .before .before .before .before .loop .i) (omega arith) in
     record { all-is = capped-over _ (omega (arith, s, c .if2 .taken)); end-is = λ h. absurd (omega arith) }
@@ -80,14 +80,14 @@ loop-less c = omega arith
 -- src/lib.rt:69:5
 loop-again : tie.Need-loop-again Inv-loop μ-loop
 unfolding recordAt
-loop-again c = 
+loop-again c =
     let a = c .before .before .before .before .before .before .args in
     let l = c .before .before .before .before .before .loop in
     (omega arith, omega (arith, sum-next (rowLength (a .lens .now)) (l .i)), omega (arith, sum-next (entryLength (a .t1) (a .lens .now)) (l .i)), omega arith, omega arith)
 
 -- src/lib.rt:62:1
 returns-3 : tie.Need-returns-3 Inv-loop μ-loop
-returns-3 c = 
+returns-3 c =
     let a = c .before .before .args in
     let l = c .before .loop in
     let e : l .i ≡ a .n = omega arith in

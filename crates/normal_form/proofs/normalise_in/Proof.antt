@@ -25,7 +25,7 @@ refused-requires c κs = search needs
 
 -- src/lib.rt:237:9
 returns : tie.Need-returns
-returns c = 
+returns c =
     let a = c .before .before .before .before .before .before .before .args in
     let x = c .before .before .examine .ensures in
     (c .refused .ensures ∙ refused-answer idRules idRules-lawful _ _ _ _ _ _ _ x (a .out .now) (c .before .if1 .taken), refused-bytes idRules idRules-lawful _ _ _ _ _ _ _ x (a .out .now) (c .before .if1 .taken))
@@ -36,7 +36,7 @@ sorted-requires c κs = few idRules idRules-lawful _ _ _ _ _ _ _ (c .before .bef
 
 -- src/lib.rt:242:5
 write-entries-requires : tie.Need-write-entries-requires
-write-entries-requires c κs = 
+write-entries-requires c κs =
     let o = c .before .before .before .before .before .before .sorted .ensures in
     let x = c .before .before .before .before .before .before .before .before .before .before .before .before .examine .ensures in
     let z : c .before .before .before .before .before .before .before .before .before .before .before .before .examine .result .number ≡ 0 = omega (arith, c .before .before .before .before .before .before .before .before .before .before .before .if1 .left) in
@@ -48,7 +48,7 @@ same-length c = search needs
 
 -- src/lib.rt:225:1
 returns-2 : tie.Need-returns-2
-returns-2 c = 
+returns-2 c =
     let a = c .before .before .before .before .before .before .before .before .before .before .before .before .before .before .before .before .before .before .before .before .args in
     let w = c .before .before .write-entries .ensures in
     let o = c .before .before .before .before .before .before .before .before .before .sorted .ensures in

@@ -34,7 +34,7 @@ put-word8-requires c κs = search needs
 
 -- src/lib.rt:177:5
 put-table-requires : tie.Need-put-table-requires
-put-table-requires c κs = 
+put-table-requires c κs =
     let a = c .before .before .before .before .before .before .before .before .before .before .before .before .before .before .args in
     let p = c .before .before .before .before .before .before .before .before .before .before .before .before .before .before .pre .0 in
     let q = c .before .before .before .before .before .before .before .before .before .before .before .before .before .before .pre .1 in
@@ -44,7 +44,7 @@ put-table-requires c κs =
 
 -- src/lib.rt:178:5
 put-images-requires : tie.Need-put-images-requires
-put-images-requires c κs = 
+put-images-requires c κs =
     let a = c .before .before .before .before .before .before .before .before .before .before .before .before .before .before .before .before .before .before .args in
     let p = c .before .before .before .before .before .before .before .before .before .before .before .before .before .before .before .before .before .before .pre .0 in
     let q = c .before .before .before .before .before .before .before .before .before .before .before .before .before .before .before .before .before .before .pre .1 in
@@ -58,7 +58,7 @@ same-length c = search needs
 -- src/lib.rt:161:1
 returns : tie.Need-returns
 unfolding magic
-returns c = 
+returns c =
     let a = c .before .before .before .before .before .before .before .before .before .before .before .before .before .before .before .before .before .before .before .before .before .args in
     c .before .before .put-images .ensures
     ∙ ap (λ r. overwrite r (a .base) (images (inOrder (a .src .now) (a .rows) [] [] (a .n) (a .order))))

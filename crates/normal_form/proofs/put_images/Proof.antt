@@ -96,7 +96,7 @@ loop-less c = omega arith
 -- src/lib.rt:149:5
 loop-again : tie.Need-loop-again Inv-loop μ-loop
 unfolding recordAt entryAt imageOf rowOf
-loop-again c = 
+loop-again c =
     let a = c .before .before .before .before .before .before .before .before .before .before .args in
     let l = c .before .before .before .before .before .before .before .loop in
     let p = writes (c .before .before .before .before .before .before .before .before .before .before) in
@@ -105,7 +105,7 @@ loop-again c =
     let z : start + size - start ≡ size = omega arith in (
       omega arith,
       c .before .before .copy-at .ensures
-      ∙ put-next p (l .i) (l .at) (omega arith) (l .inv .2) (l .out) _ (l .inv .1) (ap (λ k. take k (drop start (a .src .now))) z),
+          ∙ put-next p (l .i) (l .at) (omega arith) (l .inv .2) (l .out) _ (l .inv .1) (ap (λ k. take k (drop start (a .src .now))) z),
       at-next p (l .i) (l .at) (omega arith) (l .inv .2),
       c .before .before .copy-at .kept .0 ∙ l .inv .3,
     )
@@ -116,7 +116,7 @@ same-length c = c .before .loop .inv .3
 
 -- src/lib.rt:135:1
 returns : tie.Need-returns Inv-loop μ-loop
-returns c = 
+returns c =
     let a = c .before .before .before .before .args in
     let l = c .before .loop in
     let e : l .i ≡ a .n = omega arith in

@@ -47,7 +47,7 @@ same-length c = search needs
 
 -- src/lib.rt:95:1
 returns : tie.Need-returns
-returns c = 
+returns c =
     let a = c .before .before .before .before .before .before .before .before .before .before .before .before .before .before .before .before .before .before .args in
     c .before .before .copy-at .ensures
     ∙ ap (λ r. overwrite r (a .at + 24) (a .id .now))

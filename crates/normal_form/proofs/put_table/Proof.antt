@@ -39,7 +39,7 @@ room c = let l = c .before .loop in put-room (writes (c .before .before .before 
 
 -- src/lib.rt:122:5
 loop-holds : tie.Need-loop-holds Inv-loop μ-loop
-loop-holds c = 
+loop-holds c =
     let a = c .before .before .before .args in (
       omega arith,
       put-none (writes (c .before .before .before)),
@@ -96,15 +96,15 @@ loop-less c = omega arith
 -- src/lib.rt:122:5
 loop-again : tie.Need-loop-again Inv-loop μ-loop
 unfolding rowAfter recordAt
-loop-again c = 
+loop-again c =
     let a = c .before .before .before .before .before .before .before .before .before .before .before .args in
     let l = c .before .before .before .before .before .before .before .loop in
     let p = writes (c .before .before .before .before .before .before .before .before .before .before .before) in
     let n = ap length (c .before .before .before .before .slot .ensures) in (
       omega arith,
       c .before .before .put-row .ensures
-      ∙ put-next p (l .i) (l .at) (omega arith) (l .inv .2) (l .out) _ (l .inv .1)
-      (ap₂ (λ o x. rowBytes (record { offset = o; size = sizeOf (a .t1) (a .t5) (l .i); id = x })) (l .inv .3) (c .before .before .before .before .slot .ensures)),
+          ∙ put-next p (l .i) (l .at) (omega arith) (l .inv .2) (l .out) _ (l .inv .1)
+          (ap₂ (λ o x. rowBytes (record { offset = o; size = sizeOf (a .t1) (a .t5) (l .i); id = x })) (l .inv .3) (c .before .before .before .before .slot .ensures)),
       ap (λ z. l .at + (24 + z)) n ∙ at-next p (l .i) (l .at) (omega arith) (l .inv .2),
       omega (arith, sum-next (sizeOf (a .t1) (a .t5)) (l .i), l .inv .3),
       c .before .before .put-row .kept .0 ∙ l .inv .4,
@@ -116,7 +116,7 @@ same-length c = c .before .loop .inv .4
 
 -- src/lib.rt:106:1
 returns : tie.Need-returns Inv-loop μ-loop
-returns c = 
+returns c =
     let a = c .before .before .before .before .before .args in
     let l = c .before .loop in
     let e : l .i ≡ a .n = omega arith in

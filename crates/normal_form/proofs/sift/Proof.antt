@@ -36,7 +36,7 @@ tested c =
 
 -- src/lib.rt:20:5
 loop-holds : tie.Need-loop-holds Inv-loop μ-loop
-loop-holds c = 
+loop-holds c =
     let a = c .before .before .before .args in
     let d = drop (a .i + 1) (take (a .n) (a .order .now)) in
     let z : 0 ≡ a .i - a .i = omega arith in (
@@ -105,7 +105,7 @@ loop-less c = omega arith
 
 -- src/lib.rt:20:5
 loop-again : tie.Need-loop-again Inv-loop μ-loop
-loop-again c = 
+loop-again c =
     let l = c .before .before .before .before .before .before .loop in
     let a = c .before .before .before .before .before .before .before .before .before .before .args in
     let z : l .j + 1 - a .i ≡ l .j - a .i + 1 = omega arith in (
@@ -122,7 +122,7 @@ same-length c = c .before .loop .inv .2
 
 -- src/lib.rt:15:1
 returns : tie.Need-returns Inv-loop μ-loop
-returns c = 
+returns c =
     let l = c .before .loop in
     let a = c .before .before .before .before .before .args in
     let n = part-length (a .i + 1) (a .n) (a .order .now) (omega arith) in
@@ -134,7 +134,7 @@ same-length-2 c = c .before .before .before .before .before .before .loop .inv .
 
 -- src/lib.rt:15:1
 returns-2 : tie.Need-returns-2 Inv-loop μ-loop
-returns-2 c = 
+returns-2 c =
     let l = c .before .before .before .before .before .before .loop in
     let a = c .before .before .before .before .before .before .before .before .before .before .args in
     let n = part-length (a .i + 1) (a .n) (a .order .now) (omega arith) in

@@ -50,7 +50,7 @@ loop-less c = omega arith
 
 -- src/lib.rt:40:5
 loop-again : tie.Need-loop-again Inv-loop μ-loop
-loop-again c = 
+loop-again c =
     let l = c .before .before .before .before .loop in
     let a = c .before .before .before .before .before .before .before .args in
     let e : l .i - 1 + 1 ≡ l .i = omega arith in
@@ -58,7 +58,7 @@ loop-again c =
 
 -- src/lib.rt:34:1
 returns : tie.Need-returns Inv-loop μ-loop
-returns c = 
+returns c =
     let l = c .before .loop in
     let e : l .i ≡ 0 = omega arith in
     (l .inv .1, rw e at (l .inv .2))

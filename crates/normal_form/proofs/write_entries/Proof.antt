@@ -22,7 +22,7 @@ refused-requires c κs = search needs
 
 -- src/lib.rt:209:9
 returns : tie.Need-returns
-returns c = 
+returns c =
     let a = c .before .before .before .before .before .before .before .args in
     let s = says-big (packedLength (inOrder (a .src .now) (a .rows) (a .texts .now) (a .lens .now) (a .n) (a .order))) (encode (inOrder (a .src .now) (a .rows) (a .texts .now) (a .lens .now) (a .n) (a .order))) (a .out .now) (measured-over (a .src .now) (a .rows) (a .texts .now) (a .lens .now) (a .n) (a .order) (c .before .before .before .before .before .before .before .pre) _ _ (c .before .before .measure .ensures) (c .before .if1 .taken)) in
     (c .refused .ensures ∙ s .0, s .1)
@@ -33,7 +33,7 @@ refused-requires-2 c κs = search needs
 
 -- src/lib.rt:212:9
 returns-2 : tie.Need-returns-2
-returns-2 c = 
+returns-2 c =
     let a = c .before .before .before .before .before .before .before .before .args in
     let m = c .before .before .before .measure in
     let l = measured-in (a .src .now) (a .rows) (a .texts .now) (a .lens .now) (a .n) (a .order) (c .before .before .before .before .before .before .before .before .pre) _ _ (m .ensures) (c .before .before .if1 .left) in
@@ -42,7 +42,7 @@ returns-2 c =
 
 -- src/lib.rt:214:5
 put-bundle-requires : tie.Need-put-bundle-requires
-put-bundle-requires c κs = 
+put-bundle-requires c κs =
     let a = c .before .before .before .before .before .before .before .before .args in
     let m = c .before .before .before .measure in
     let p = c .before .before .before .before .before .before .before .before .pre in
@@ -55,7 +55,7 @@ same-length c = search needs
 
 -- src/lib.rt:193:1
 returns-3 : tie.Need-returns-3
-returns-3 c = 
+returns-3 c =
     let a = c .before .before .before .before .before .before .before .before .before .before .before .args in
     let m = c .before .before .before .before .before .before .measure in
     let l = measured-in (a .src .now) (a .rows) (a .texts .now) (a .lens .now) (a .n) (a .order) (c .before .before .before .before .before .before .before .before .before .before .before .pre) _ _ (m .ensures) (c .before .before .before .before .before .if1 .left) in

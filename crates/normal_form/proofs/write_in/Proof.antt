@@ -24,7 +24,7 @@ refused-requires c κs = search needs
 
 -- src/lib.rt:286:9
 returns : tie.Need-returns
-returns c = 
+returns c =
     let a = c .before .before .before .before .before .before .before .before .args in
     let j = c .before .before .examine-records .ensures in
     (c .refused .ensures ∙ refused-answer idRules (a .n) (a .records) (a .ids .now) (a .images .now) idRules-lawful _ _ _ _ j (a .out .now) (c .before .if1 .taken), refused-bytes idRules (a .n) (a .records) (a .ids .now) (a .images .now) idRules-lawful _ _ _ _ j (a .out .now) (c .before .if1 .taken))
@@ -35,7 +35,7 @@ as-given-requires c κs = search needs
 
 -- src/lib.rt:289:5
 write-entries-requires : tie.Need-write-entries-requires
-write-entries-requires c κs = 
+write-entries-requires c κs =
     let a = c .before .before .before .before .before .before .before .before .before .before .before .before .before .args in
     let z : c .before .before .before .before .before .before .before .examine-records .result .number ≡ 0 = omega (arith, c .before .before .before .before .before .before .if1 .left) in
     records-placed idRules (a .n) (a .records) (a .ids .now) (a .images .now) idRules-lawful _ _ _ _ (c .before .before .before .before .before .before .before .examine-records .ensures) z (omega arith) _ (c .before .before .before .before .before .as-given .ensures .1)
@@ -46,7 +46,7 @@ same-length c = search needs
 
 -- src/lib.rt:271:1
 returns-2 : tie.Need-returns-2
-returns-2 c = 
+returns-2 c =
     let a = c .before .before .before .before .before .before .before .before .before .before .before .before .before .before .before .before .args in
     let w = c .before .before .write-entries .ensures in
     let j = c .before .before .before .before .before .before .before .before .before .before .examine-records .ensures in
