@@ -34,10 +34,18 @@ openmp-amdgcn-amd-amdhsa--gfx1030
 gfx1030
 DEVICES
 
+"$offload" normalise "$bundle" -o "$work/normal" >"$work/answer"
+"$offload" check "$work/normal" >"$work/accepted"
+"$offload" normalise "$work/normal" -o "$work/again" >"$work/answer"
+cmp "$work/normal" "$work/again"
+echo
+echo "Its normal form: $(<"$work/accepted"), length $(stat -c %s "$work/normal"); and it is its own normal form."
+
 cat <<TEXT
 
 Next:
   $offload pick $bundle hip-amdgcn-amd-amdhsa--gfx1030 -o gfx1030.o
+  $offload normalise $bundle -o normal.bundle
   $offload --help
   make install PREFIX=\$HOME/.local
   make test

@@ -43,6 +43,7 @@ ends_if_installed() {
 printf '%-42s %8s %8s %8s %8s\n' "${#files[@]} damaged files" answered refused crashed hung
 ends 'offload check' 1 "$offload" check FILE
 ends 'offload pick' 1 "$offload" pick FILE $target -o "$out/image"
+ends 'offload normalise' 1 "$offload" normalise FILE -o "$out/normal"
 [ "${3-}" = llvm ] || exit $wrong
 ends_if_installed clang-offload-bundler -list -type=o -input=FILE
 ends_if_installed clang-offload-bundler -unbundle -type=o -targets=$target -input=FILE -output="$out/image"

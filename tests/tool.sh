@@ -49,13 +49,14 @@ word() {
   printf "$(printf '\\x%02x\\x%02x\\x%02x\\x%02x' $(($1 & 255)) $(($1 >> 8 & 255)) $(($1 >> 16 & 255)) $(($1 >> 24 & 255)))\0\0\0\0"
 }
 
-# bundle ID..: a bundle of empty images.
+# bundle SIZE ID..: the table of a bundle whose entries share one image of this size.
 bundle() {
-  local id end=32
+  local id end=32 size=$1
+  shift
   for id in "$@"; do end=$((end + 24 + ${#id})); done
   printf '__CLANG_OFFLOAD_BUNDLE__'
   word $#
-  for id in "$@"; do word "$end"; word 0; word ${#id}; printf %s "$id"; done
+  for id in "$@"; do word "$end"; word "$size"; word ${#id}; printf %s "$id"; done
 }
 
 # Help, version and bad usage.
@@ -74,6 +75,8 @@ expect 2 '' "$usage" pick "$cards"
 expect 2 '' "$usage" pick "$cards" gfx906 -o
 expect 2 '' "$usage" pick "$cards" gfx906 -o one -o two
 expect 2 '' "$usage" pick "$cards" gfx906 more
+expect 2 '' "$usage" normalise "$cards"
+expect 2 '' "$usage" normalise -o out
 holds
 
 # Accepted bundles.
@@ -82,7 +85,7 @@ expect 0 'accepted, entries 4' '' check "$samples/bundles/aligned.bundle"
 expect 0 'accepted, entries 5' '' check "$samples/bundles/kinds.bundle"
 expect 0 'accepted, entries 1' '' check "$samples/bundles/host-only.bundle"
 expect 0 'accepted, entries 4' '' check "$samples/bundles/five-fields.bundle"
-bundle >none
+bundle 0 >none
 expect 0 'accepted, entries 0' '' check none
 rm none
 
@@ -131,17 +134,49 @@ expect 1 '' "$(refusal short '4 TABLE' 2)" check short
 head -c -1 "$cards" >short
 expect 1 '' "$(refusal short '6 RANGE' 7)" check short
 expect 1 '' "$(refusal short '6 RANGE' 7)" pick short "${gfx}906"
-bundle host-a-b-c host-a-b-c- hip-a >id
+bundle 0 host-a-b-c host-a-b-c- hip-a >id
 expect 1 '' "$(refusal id '5 ID' 2)" check id
-bundle host-a-b-c hip-a-b-c-gfx906:xnack+:sramecc- hip-a-b-c--gfx906:sramecc-:xnack+ >twice
+bundle 0 host-a-b-c hip-a-b-c-gfx906:xnack+:sramecc- hip-a-b-c--gfx906:sramecc-:xnack+ >twice
 expect 1 '' "$(refusal twice '7 TWICE' 2)" check twice
-bundle hip-a-b-c-gfx906 hip-a-b-c-gfx906:xnack+ >mixed
+bundle 0 hip-a-b-c-gfx906 hip-a-b-c-gfx906:xnack+ >mixed
 expect 1 '' "$(refusal mixed '8 MIXED' 1)" check mixed
 truncate -s 1073741825 long
 expect 1 '' "$(refusal long '1 LENGTH' 0)" check long
 cp "$cards" large
 truncate -s 1073741824 large
 expect 0 'accepted, entries 8' '' check large
+rm ./*
+
+# Normal forms: accepted, their own normal form, and with the same images.
+for sample in three-cards aligned kinds host-only five-fields; do
+  expect 0 'written, length *' '' normalise "$samples/bundles/$sample.bundle" -o normal
+  expect 0 'accepted, entries [1-8]' '' check normal
+  expect 0 "written, length $(stat -c %s normal)" '' normalise normal -o again
+  same again normal
+done
+expect 0 'entry *, position *, size *' '' pick normal hip-amdgcn-amd-amdhsa-gfx906:xnack+:sramecc- -o image
+same image "$samples/images/gfx906-sramecc-xnack+.o"
+cp "$cards" same
+expect 0 'written, length *' '' normalise same -o same
+expect 0 'written, length *' '' normalise "$cards" -o normal
+same same normal
+holds again image normal same
+rm ./*
+
+# An image that entries share stands once for each of them.
+ids=()
+for k in {10..73}; do ids+=("host-a$k-b-c"); done
+{ bundle 5 "${ids[@]}"; printf image; } >shared
+expect 0 "written, length $((32 + 64 * (24 + 12 + 2 + 5)))" '' normalise shared -o normal
+expect 0 'entry 63, position *, size 5' '' pick normal host-a73-b-c -o image
+[ "$(<image)" = image ] || fail 'an image that was shared'
+bundle $((17 << 20)) "${ids[@]}" >big
+truncate -s $((18 << 20)) big
+expect 0 'accepted, entries 64' '' check big
+expect 1 '' "$(refusal big '11 BIG' 0)" normalise big -o out
+head -c -1 shared >short
+expect 1 '' "$(refusal short '6 RANGE' 0)" normalise short -o out
+holds big image normal shared short
 rm ./*
 
 # Files that cannot be read or written: a reason, and no file is left.

@@ -48,7 +48,6 @@ enum status pick(const struct request *request) {
     return ACCEPTED;
 }
 
-#ifdef OFFLOAD_NORMALISE
 /* The normal form of a bundle that lacks nothing but room, in memory of its own; null where there is not enough memory.
  * An ID grows by two dashes at most, so the first room is enough unless images share bytes; then it is doubled. */
 static struct bytes normal_form(struct bytes bundle) {
@@ -77,4 +76,3 @@ enum status normalise(const struct request *request) {
     printf("written, length %zu\n", normal.length);
     return ACCEPTED;
 }
-#endif

@@ -16,9 +16,7 @@ struct request {
 
 enum status check(const struct request *request);
 enum status pick(const struct request *request);
-#ifdef OFFLOAD_NORMALISE
 enum status normalise(const struct request *request);
-#endif
 
 /* Says on standard error that a file cannot be read or written, and why. */
 enum status cannot(const char *what, const char *path, const char *failure);

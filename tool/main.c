@@ -10,9 +10,7 @@ static const char help[] =
     "\n"
     "  offload check FILE                 say whether a bundle is accepted\n"
     "  offload pick FILE DEVICE [-o OUT]  find the image for a device; with -o, write it to OUT\n"
-#ifdef OFFLOAD_NORMALISE
     "  offload normalise FILE -o OUT      write a bundle's normal form to OUT\n"
-#endif
     "  offload --help                     print this text\n"
     "  offload --version                  print the version\n"
     "\n"
@@ -34,9 +32,7 @@ struct command {
 static const struct command commands[] = {
     {"check", 1, NO_OUTPUT, check},
     {"pick", 2, MAY_HAVE_OUTPUT, pick},
-#ifdef OFFLOAD_NORMALISE
     {"normalise", 1, NEEDS_OUTPUT, normalise},
-#endif
 };
 
 static const struct command *find(const char *name) {

@@ -19,10 +19,8 @@ static const struct refusal refusals[] = {
     [OFFLOAD_MIXED] = {"MIXED", "An earlier entry for the same processor states other features than the entry at this place."},
     [OFFLOAD_QUERY] = {"QUERY", "The device name is not written as an entry ID must be."},
     [OFFLOAD_NONE] = {"NONE", "No entry is compatible with the device."},
-#ifdef OFFLOAD_NORMALISE
     [OFFLOAD_BIG] = {"BIG", "The normal form would be longer than 1073741824 bytes."},
     [OFFLOAD_ROOM] = {"ROOM", "The output is too short for the normal form."},
-#endif
 };
 
 static struct refusal refusal(uint64_t number) {

@@ -1,9 +1,10 @@
-//! Check and pick over bundles of 1 to 64 entries.
+//! Check, pick and normalise over bundles of 1 to 64 entries, and normalise over images of many sizes.
 
 use crate::clock::{job, time, Timed, Whose};
-use crate::table::{self, digits, Table};
+use crate::table::{self, bytes, digits, Table};
 use crate::{baseline, library, sample};
 use second::model::bundle as model;
+use std::cell::RefCell;
 use std::hint::black_box;
 
 const IMAGE: usize = 2048;
@@ -23,9 +24,27 @@ fn pick(bundle: &[u8], device: &[u8]) -> Vec<Timed> {
     time(Whose::Thread, vec![library, second, plain])
 }
 
+/// All write to one output, since the places of two buffers in memory make a difference of their own.
+fn normalise(bundle: &[u8]) -> Vec<Timed> {
+    let out = &RefCell::new(bundle.to_vec());
+    let library = job(|| library::normalise(black_box(bundle), &mut out.borrow_mut()));
+    let second = job(|| model::normalise(black_box(bundle), &mut out.borrow_mut()));
+    let plain = job(|| baseline::normalise(black_box(bundle), &mut out.borrow_mut()));
+    time(Whose::Thread, vec![library, second, plain])
+}
+
+/// Library, plain C, memcpy of as many bytes.
+fn copy(bundle: &[u8]) -> Vec<Timed> {
+    let out = &RefCell::new(bundle.to_vec());
+    let library = job(|| library::normalise(black_box(bundle), &mut out.borrow_mut()));
+    let plain = job(|| baseline::normalise(black_box(bundle), &mut out.borrow_mut()));
+    let memcpy = job(|| black_box(&mut *out.borrow_mut()).copy_from_slice(black_box(bundle)));
+    time(Whose::Thread, vec![library, plain, memcpy])
+}
+
 pub fn jobs() {
     let table = Table::new(
-        "Check and pick",
+        "Check, pick and normalise",
         "Time of one call. Images of 2 KiB; the pick is for the last entry.",
         &["Job", "Entries", "Library", "Second program", "Plain C", "Library / plain C"],
     );
@@ -35,7 +54,11 @@ pub fn jobs() {
     }
     for entries in [1, 16, 64] {
         let bundle = sample::bundle(entries, IMAGE);
-        row(&table, "pick", entries, &pick(&bundle, sample::device(entries).as_bytes()));
+        row(&table, "pick", entries, &pick(&bundle, sample::id(entries - 1).as_bytes()));
+    }
+    for entries in [1, 16, 64] {
+        let bundle = sample::bundle(entries, IMAGE);
+        row(&table, "normalise", entries, &normalise(&bundle));
     }
     table.end();
 }
@@ -57,6 +80,23 @@ pub fn growth() {
         let timed = check(&sample::bundle(entries, IMAGE));
         let both = |timed: Timed| [table::time(timed.time), table::time(timed.time / entries as f64)];
         table.row(&[vec![entries.to_string()], both(timed[0]).to_vec(), both(timed[2]).to_vec()].concat());
+    }
+    table.end();
+}
+
+pub fn copying() {
+    let table = Table::new(
+        "Copying",
+        "Normalising a bundle of one image, beside memcpy of as many bytes: time of one call, and speed seen from memcpy's.",
+        &["Image", "Library", "Plain C", "memcpy", "Library, of memcpy's speed", "Plain C, of memcpy's speed"],
+    );
+    for size in
+        [4 << 10, 16 << 10, 64 << 10, 256 << 10, 1 << 20, 2 << 20, 8 << 20, 32 << 20, 64 << 20, 128 << 20, 256 << 20]
+    {
+        let timed = copy(&sample::bundle(1, size));
+        let times = timed.iter().map(|timed| table::time(timed.time)).collect();
+        let speeds = [timed[2].of_first, timed[2].of_first / timed[1].of_first].map(digits);
+        table.row(&[vec![bytes(size)], times, speeds.to_vec()].concat());
     }
     table.end();
 }

@@ -3,6 +3,7 @@
 extern "C" {
     fn offload_check_number(bundle: *const u8, bundle_length: usize) -> u64;
     fn offload_pick_number(bundle: *const u8, bundle_length: usize, device: *const u8, device_length: usize) -> u64;
+    fn offload_normalise_length(bundle: *const u8, bundle_length: usize, out: *mut u8, out_length: usize) -> u64;
 }
 
 pub fn check(bundle: &[u8]) -> u64 {
@@ -13,4 +14,9 @@ pub fn check(bundle: &[u8]) -> u64 {
 pub fn pick(bundle: &[u8], device: &[u8]) -> u64 {
     // SAFETY: the slices are as long as they say.
     unsafe { offload_pick_number(bundle.as_ptr(), bundle.len(), device.as_ptr(), device.len()) }
+}
+
+pub fn normalise(bundle: &[u8], out: &mut [u8]) -> u64 {
+    // SAFETY: the slices are as long as they say, and the output shares no byte with the bundle.
+    unsafe { offload_normalise_length(bundle.as_ptr(), bundle.len(), out.as_mut_ptr(), out.len()) }
 }

@@ -3,57 +3,78 @@
 use crate::clock::{job, time, Timed, Whose};
 use crate::sample;
 use crate::table::{self, digits, Table};
-use std::path::{Path, PathBuf};
 use std::process::{Command, Stdio};
 
-/// The first of these names that can be run.
-fn installed(names: &[&str]) -> Option<String> {
-    let runs =
-        |name: &&&str| Command::new(name).arg("--version").stdout(Stdio::null()).stderr(Stdio::null()).status().is_ok();
-    names.iter().find(runs).map(|name| name.to_string())
+const IMAGE: usize = 2048;
+
+/// A program and the words it is given.
+struct Call<'a> {
+    program: &'a str,
+    words: Vec<String>,
 }
 
-fn run(program: &str, words: &[&str]) {
-    let status = Command::new(program).args(words).stdout(Stdio::null()).status();
-    assert!(status.is_ok_and(|status| status.success()), "{program} {words:?}");
+impl<'a> Call<'a> {
+    fn new(program: &'a str, words: &[&str]) -> Call<'a> {
+        Call { program, words: words.iter().map(|word| word.to_string()).collect() }
+    }
+
+    fn runs(&self) -> bool {
+        let command = Command::new(self.program).args(&self.words).stdout(Stdio::null()).stderr(Stdio::null()).status();
+        command.is_ok_and(|status| status.success())
+    }
 }
 
-fn compare(ours: &str, our_words: &[&str], theirs: &str, their_words: &[&str]) -> Vec<Timed> {
-    time(Whose::Children, vec![job(|| run(ours, our_words)), job(|| run(theirs, their_words))])
+fn compare(ours: Call, theirs: Call) -> Vec<Timed> {
+    let run = |call: &Call| assert!(call.runs(), "{} {:?}", call.program, call.words);
+    time(Whose::Children, vec![job(|| run(&ours)), job(|| run(&theirs))])
 }
 
-fn row(table: &Table, job: &str, entries: &str, timed: &[Timed]) {
+fn row(table: &Table, job: &str, entries: usize, timed: &[Timed]) {
     let times = timed.iter().map(|timed| table::time(timed.time));
     let cells = [job.to_string(), entries.to_string()].into_iter().chain(times).chain([digits(timed[1].of_first)]);
     table.row(&cells.collect::<Vec<_>>());
 }
 
-pub fn jobs(tool: &str, work: &Path) {
-    let Some(bundler) = installed(&["clang-offload-bundler-19", "clang-offload-bundler"]) else {
+pub fn jobs(tool: &str, folder: &str) {
+    let installed = ["clang-offload-bundler-19", "clang-offload-bundler"];
+    let Some(bundler) = installed.into_iter().find(|name| Call::new(name, &["--version"]).runs()) else {
         println!("LLVM's bundler is not installed.\n");
         return;
     };
     let table = Table::new(
         "The tool and LLVM's bundler",
-        &format!("Processor time of a whole process. LLVM's: `{bundler}` with `-list` and `-unbundle`."),
+        &format!(
+            "Processor time of a whole process. LLVM's is `{bundler}` with `-list`, with `-unbundle`, and, since it has \
+             nothing like normalise, bundling the same images."
+        ),
         &["Job", "Entries", "offload", "LLVM", "LLVM / offload"],
     );
-    row(&table, "start (`--version`)", "", &compare(tool, &["--version"], &bundler, &["--version"]));
+    row(&table, "start: `--version`", 0, &compare(Call::new(tool, &["--version"]), Call::new(bundler, &["--version"])));
+    let (file, image, out) = (format!("{folder}/bundle"), format!("{folder}/image"), format!("{folder}/out"));
+    std::fs::write(&image, vec![7; IMAGE]).expect("a file in the folder");
     for entries in [1, 16, 64] {
-        let (file, out) = (work.join("bundle"), work.join("out"));
-        std::fs::write(&file, sample::bundle(entries, 2048)).expect("a file in target/");
-        let (file, out, device) = (text(file), text(out), sample::device(entries));
-        let input = format!("-input={file}");
-        let list = compare(tool, &["check", &file], &bundler, &["-list", "-type=o", &input]);
-        row(&table, "check, list", &entries.to_string(), &list);
-        let (target, output) = (format!("-targets={device}"), format!("-output={out}"));
-        let unbundle = ["-unbundle", "-type=o", &target, &input, &output];
-        let pick = compare(tool, &["pick", &file, &device, "-o", &out], &bundler, &unbundle);
-        row(&table, "pick, unbundle", &entries.to_string(), &pick);
+        std::fs::write(&file, sample::bundle(entries, IMAGE)).expect("a file in the folder");
+        let device = sample::id(entries - 1);
+        let (input, output) = (format!("-input={file}"), format!("-output={out}"));
+
+        let list = Call::new(bundler, &["-type=o", "-list", &input]);
+        row(&table, "check, list", entries, &compare(Call::new(tool, &["check", &file]), list));
+
+        let unbundle = Call::new(bundler, &["-type=o", "-unbundle", &input, &output, &format!("-targets={device}")]);
+        let pick = Call::new(tool, &["pick", &file, &device, "-o", &out]);
+        row(&table, "pick, unbundle", entries, &compare(pick, unbundle));
+
+        let normalise = Call::new(tool, &["normalise", &file, "-o", &out]);
+        row(&table, "normalise, bundle", entries, &compare(normalise, bundle(bundler, entries, &image, &output)));
     }
     table.end();
 }
 
-fn text(path: PathBuf) -> String {
-    path.into_os_string().into_string().expect("a path in UTF-8")
+/// Bundles so many images, and none for the host, which the bundler wants among them.
+fn bundle<'a>(bundler: &'a str, entries: usize, image: &str, output: &str) -> Call<'a> {
+    let ids: Vec<String> = (0..entries).map(sample::id).collect();
+    let mut call = Call::new(bundler, &["-type=o", output, "-input=/dev/null"]);
+    call.words.push(format!("-targets=host-x86_64-unknown-linux-gnu,{}", ids.join(",")));
+    call.words.extend((0..entries).map(|_| format!("-input={image}")));
+    call
 }

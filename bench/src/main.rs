@@ -10,7 +10,6 @@ mod llvm;
 mod sample;
 mod table;
 
-use std::path::Path;
 use std::process::{exit, Command};
 
 fn main() {
@@ -24,8 +23,9 @@ fn main() {
     baseline::compare(5000);
     bundles::jobs();
     bundles::growth();
+    bundles::copying();
     binaries::reading();
-    llvm::jobs(tool, Path::new(work));
+    llvm::jobs(tool, work);
 }
 
 /// The day, the processor, the compiler and how busy the machine is.

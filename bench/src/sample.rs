@@ -3,16 +3,11 @@
 use second::model::bundle::packed;
 use second::samples::BINARIES;
 
-/// The device that is asked for: the last entry is for it.
-pub fn device(entries: usize) -> String {
-    id(entries - 1)
-}
-
 const KINDS: [&str; 3] = ["hip", "hipv4", "openmp"];
 const PROCESSORS: [&str; 6] = ["gfx906", "gfx908", "gfx90a", "gfx940", "gfx941", "gfx942"];
 
 /// The four settings of one processor after another, for one kind after another.
-fn id(entry: usize) -> String {
+pub fn id(entry: usize) -> String {
     let (kind, processor, setting) = (KINDS[entry / 24], PROCESSORS[entry / 4 % 6], entry % 4);
     let sign = |on: bool| if on { '+' } else { '-' };
     let (sramecc, xnack) = (sign(setting < 2), sign(setting % 2 == 0));

@@ -40,3 +40,10 @@ pub fn digits(value: f64) -> String {
         value => format!("{value:.0}"),
     }
 }
+
+pub fn bytes(count: usize) -> String {
+    if count < 1 << 20 {
+        return format!("{} KiB", count >> 10);
+    }
+    format!("{} MiB", count >> 20)
+}
