@@ -2,7 +2,7 @@
 ghost use mathlib.Core.Path.{_≡_};
 ghost use Prim.Native.Nat.{ℕ, _+_, _<_, _≤_};
 ghost use mathlib.Core.List.{[]};
-ghost use lib.ListN.{length, getD, take, drop, set, replicate};
+ghost use lib.ListN.{length, getD, take, drop, set};
 ghost use Rattle.wire.specs.Bytes.{overwrite};
 ghost use Rattle.wire.specs.Order.{insertBy, sortBy};
 ghost use Rattle.wire.specs.Lists.{total};
@@ -327,19 +327,6 @@ fn record_at(records: &[EntryRecord], i: usize) -> EntryRecord
     }
 }
 
-// The record of zeros in each of 64 places.
-fn no_records() -> [EntryRecord; 64]
-    ensures { λ r. ⌜ r ≡ replicate 64 noRecord ⌝ }
-{
-    let none = EntryRecord {
-        id_start: 0,
-        id_len: 0,
-        image_start: 0,
-        image_len: 0,
-    };
-    [none; 64]
-}
-
 // The places with record x at place i.
 fn put_record(a: [EntryRecord; 64], i: usize, x: EntryRecord) -> [EntryRecord; 64]
     requires { ⌜ i < 64 ⌝ }
@@ -354,11 +341,23 @@ fn put_record(a: [EntryRecord; 64], i: usize, x: EntryRecord) -> [EntryRecord; 6
 fn gather(records: &[EntryRecord]) -> [EntryRecord; 64]
     ensures { λ r. ⌜ r ≡ gathered (now (records .entry)) ⌝ }
 {
-    let mut a = no_records();
+    let mut a = bundle::no_records();
     let mut i = 0;
     while i < 64 {
         a = put_record(a, i, record_at(records, i));
         i += 1;
     }
     a
+}
+
+// The bundle of a lent list of records, whose IDs lie in `ids` and whose images lie in `images`, over `out`.
+pub fn write_bundle(
+    records: &[EntryRecord],
+    ids: &[u8],
+    images: &[u8],
+    out: &mut [u8],
+) -> Written
+    ensures { λ r. ⌜ (r ≡ write idRules (length (now (records .entry))) (now (records .entry)) (now (ids .entry)) (now (images .entry)) (length (now (out .entry)))) × (now (out .exit) ≡ writtenTo idRules (length (now (records .entry))) (now (records .entry)) (now (ids .entry)) (now (images .entry)) (now (out .entry))) ⌝ }
+{
+    write_list(gather(records), record_count(records), ids, images, out)
 }
