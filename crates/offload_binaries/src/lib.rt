@@ -45,7 +45,8 @@ pub fn next_at(s: &[u8], cursor: Cursor) -> Step
         return Step { answer, cursor };
     }
     let binary = answer.binary;
-    let next = position + binary.size;
+    let size = binary.size;
+    let next = position + size;
     let count = taken + 1;
     Step {
         answer,
