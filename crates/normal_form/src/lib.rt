@@ -351,12 +351,7 @@ fn gather(records: &[EntryRecord]) -> [EntryRecord; 64]
 }
 
 // The bundle of a lent list of records, whose IDs lie in `ids` and whose images lie in `images`, over `out`.
-pub fn write_bundle(
-    records: &[EntryRecord],
-    ids: &[u8],
-    images: &[u8],
-    out: &mut [u8],
-) -> Written
+pub fn write_bundle(records: &[EntryRecord], ids: &[u8], images: &[u8], out: &mut [u8]) -> Written
     ensures { λ r. ⌜ (r ≡ write idRules (length (now (records .entry))) (now (records .entry)) (now (ids .entry)) (now (images .entry)) (length (now (out .entry)))) × (now (out .exit) ≡ writtenTo idRules (length (now (records .entry))) (now (records .entry)) (now (ids .entry)) (now (images .entry)) (now (out .entry))) ⌝ }
 {
     write_list(gather(records), record_count(records), ids, images, out)
