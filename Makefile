@@ -7,23 +7,32 @@ CARGO := cargo --quiet
 SECOND := --release --offline --manifest-path second/Cargo.toml
 LIBRARY := target/staticlib/liboffload.a
 STRICT := -Wall -Wextra -Werror -pedantic -Iinclude
+POSIX := gcc -std=c99 -D_POSIX_C_SOURCE=200809L -O2 $(STRICT)
+VERSION := 0.1.0
+TOOL := target/offload
+PREFIX := /usr/local
+LLVM := llvm
 
-.PHONY: test prove library calls compare tools
+.PHONY: test demo prove library calls compare tool tool-test example install install-test damage bench compiler tools
 
 # The proofs and the must-fail edits first, then the library against the second program. `rt ci` removes target/, so its last line is kept outside.
 test: tools
 	rt fmt --check
 	verdict=$$(mktemp); trap 'rm -f "$$verdict"' EXIT; \
 	rt ci | tee "$$verdict"; \
-	$(MAKE) --no-print-directory calls compare; \
+	$(MAKE) --no-print-directory calls compare tool-test example install-test damage LLVM=; \
 	tail -n 1 "$$verdict"
+
+# What the tool does with a real bundle.
+demo: tool
+	@examples/demo.sh $(TOOL)
 
 # The proofs alone.
 prove:
 	rt check
 
 # The static library of the proved crates, for C, C++ and Rust.
-library:
+library: compiler
 	mkdir -p target
 	rt staticlib offload >target/staticlib.out || { cat target/staticlib.out; exit 1; }
 
@@ -37,9 +46,53 @@ calls: library
 # The library against the second program: the same rules, written a second time.
 compare: library
 	$(CARGO) test $(SECOND) --lib
-	$(CARGO) build $(SECOND) --features linked
+	$(CARGO) build $(SECOND) --features normalise
 	second/target/release/compare
 
-# What is needed beside the Rattle kit.
+# The tool, and a test that uses it as a person would.
+tool: library
+	$(POSIX) -DOFFLOAD_VERSION='"$(VERSION)"' -o $(TOOL) tool/*.c $(LIBRARY)
+
+tool-test: tool
+	tests/tool.sh $(TOOL)
+
+# The smallest loader.
+example: library
+	$(POSIX) -o target/loader examples/loader.c $(LIBRARY)
+	tests/loader.sh target/loader
+
+# Header, library, tool and offload.pc, under PREFIX.
+install: tool
+	install -D -m 644 -t $(DESTDIR)$(abspath $(PREFIX))/include include/offload.h
+	install -D -m 644 -t $(DESTDIR)$(abspath $(PREFIX))/lib $(LIBRARY)
+	install -D -m 755 -t $(DESTDIR)$(abspath $(PREFIX))/bin $(TOOL)
+	install -d $(DESTDIR)$(abspath $(PREFIX))/lib/pkgconfig
+	sed 's|@PREFIX@|$(abspath $(PREFIX))|; s|@VERSION@|$(VERSION)|' tool/offload.pc.in >$(DESTDIR)$(abspath $(PREFIX))/lib/pkgconfig/offload.pc
+
+# The example, built against what `make install` puts in place.
+install-test:
+	rm -rf target/installed
+	$(MAKE) --no-print-directory install PREFIX=$(CURDIR)/target/installed
+	tests/install.sh target/installed
+
+# Damaged copies of the samples, given to the tool and to LLVM's tools: how often each answers, refuses, crashes, hangs.
+damage: tool
+	rm -rf target/damage
+	mkdir -p target/damage
+	$(POSIX) -o target/make-damage tests/damage.c
+	target/make-damage 2000 target/damage samples/bundles/* samples/binaries/*
+	tests/damage.sh $(TOOL) target/damage $(LLVM)
+
+# The library's speed beside that of the second program, plain C, memcpy and LLVM's tools.
+bench: tool
+	$(CARGO) build --release --offline --manifest-path bench/Cargo.toml
+	bench/target/release/bench $(TOOL) target/bench | tee target/bench.md
+
+# What is needed beside the Rattle kit: for the tool, and for `make test`.
+need = for program in $(1); do command -v $$program >/dev/null || { apt-get update -qq; apt-get install -y -qq $(1); break; }; done
+
+compiler:
+	@$(call need,gcc)
+
 tools:
-	command -v cargo gcc g++ >/dev/null || { apt-get update -qq; apt-get install -y -qq cargo gcc g++; }
+	@$(call need,cargo gcc g++ pkg-config)

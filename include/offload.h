@@ -1,13 +1,13 @@
-/* Containers of GPU images: check an offload bundle and pick the image for a device.
+/* Containers of GPU images: check an offload bundle, pick the image for a device, put a bundle in normal form.
  *
- * Every call ends, reads only the bytes lent to it, and writes none. It takes any bytes: nothing need be checked first.
- * The caller answers for one thing: each length is the true length of what its pointer points to. A length of 0 goes with any pointer that is
- * not null.
+ * Every call ends and touches only the bytes lent to it; only the normalise calls write, and only to their output. A call takes any bytes: nothing
+ * need be checked first. The caller answers for two things that no call can see: each length is the true length of what its pointer points to,
+ * and a lent output shares no byte with anything else lent. A length of 0 goes with any pointer that is not null.
  *
  * A C call returns one number, so each number of an answer has a call of its own, which does the whole job. The calls of one family, given the
  * same bytes, speak of the same answer. On a refusal every number but OFFLOAD_..._number and .._place is 0; on OK the place is 0.
  *
- * Each function is proved to return the field of that name of the definitions `check` and `pick`. */
+ * Each function is proved to return the field of that name of the definitions `check`, `pick` and `normalise`. */
 #ifndef OFFLOAD_H
 #define OFFLOAD_H
 
@@ -30,7 +30,9 @@ enum offload_number {
     OFFLOAD_TWICE = 7,   /* an earlier entry has the same meaning */
     OFFLOAD_MIXED = 8,   /* an earlier entry of equal kind, triple and processor states other feature names */
     OFFLOAD_QUERY = 9,   /* the device name breaks the ID rules */
-    OFFLOAD_NONE = 10    /* no compatible entry */
+    OFFLOAD_NONE = 10,   /* no compatible entry */
+    OFFLOAD_BIG = 11,    /* the output would be above OFFLOAD_LIMIT bytes */
+    OFFLOAD_ROOM = 12    /* the lent output is shorter than the output */
 };
 
 #define OFFLOAD_LIMIT ((uint64_t)1073741824) /* largest container, in bytes */
@@ -50,6 +52,14 @@ uint64_t offload_pick_place(const uint8_t *bundle, size_t bundle_length, const u
 uint64_t offload_pick_index(const uint8_t *bundle, size_t bundle_length, const uint8_t *device, size_t device_length);
 uint64_t offload_pick_position(const uint8_t *bundle, size_t bundle_length, const uint8_t *device, size_t device_length);
 uint64_t offload_pick_size(const uint8_t *bundle, size_t bundle_length, const uint8_t *device, size_t device_length);
+
+/* Write a bundle's normal form: entries sorted by canonical ID, images packed after the table. Two bundles that hold the same entries have the same
+ * normal form, byte for byte; it is accepted, is its own normal form, and every pick gives from it what it gives from the bundle.
+ * number: OFFLOAD_OK, 1 to 8 as the check gives them, OFFLOAD_BIG or OFFLOAD_ROOM. place: as the check gives it, 0 for BIG and ROOM.
+ * length: how many bytes are written at the start of out; what lies beyond stays as it was. A refusal writes nothing. */
+uint64_t offload_normalise_number(const uint8_t *bundle, size_t bundle_length, uint8_t *out, size_t out_length);
+uint64_t offload_normalise_place(const uint8_t *bundle, size_t bundle_length, uint8_t *out, size_t out_length);
+uint64_t offload_normalise_length(const uint8_t *bundle, size_t bundle_length, uint8_t *out, size_t out_length);
 
 #ifdef __cplusplus
 }

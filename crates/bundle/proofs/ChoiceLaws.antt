@@ -10,20 +10,21 @@ use Rattle.wire.specs.First.{first}
 use Rattle.wire.specs.Stop.{Stop}
 use Rattle.wire.proofs.FirstLaws.{first-same, first-at, first-before}
 use Rattle.entry_id.specs.IdRules.{IdRules, Lawful}
-use Rattle.bundle.specs.Table.{count, row, rowAt}
+use Rattle.bundle.specs.Table.{count, row}
 use Rattle.bundle.specs.Check.{bundleStop}
 use Rattle.bundle.specs.Pick.{compatibleAt, pick}
 use Rattle.bundle.specs.Accepted.{Accepted}
 use Rattle.bundle.specs.Theorems.{refusal, Asked}
-use Rattle.bundle.specs.Code.{noRow, heldRow, text, Room, Texts, Examination}
-use Rattle.bundle.specs.declared.Row.{Row}
+use Rattle.bundle.specs.Records.{noRecord, recordAt, rowOf, rowsOf, text, Examination}
+use Rattle.bundle.specs.Code.{Texts}
+use Rattle.bundle.specs.declared.EntryRecord.{EntryRecord}
 use Rattle.bundle.specs.declared.Picked.{Picked}
 use Rattle.bundle.proofs.CheckLaws.{unrefused-go}
 use Rattle.bundle.proofs.AcceptLaws.{accepted}
 use Rattle.bundle.proofs.PickLaws.{pick-refused, pick-query, pick-none, pick-found}
 use Rattle.bundle.proofs.SlotLaws.{held-texts}
 
-module _ (R : IdRules) (L : Lawful R) (s device texts lens : List ℕ) (number place n : ℕ) (rows : List Row) (x : Examination R s texts lens number place n rows) where
+module _ (R : IdRules) (L : Lawful R) (s device texts lens : List ℕ) (number place n : ℕ) (rows : List EntryRecord) (x : Examination R s texts lens number place n rows) where
   number-is : bundleStop R s .number ≡ number
   number-is = ap (λ t. t .number) (sym (x .stop-is))
 
@@ -41,9 +42,12 @@ module _ (R : IdRules) (L : Lawful R) (s device texts lens : List ℕ) (number p
     n-is : n ≡ count s
     n-is = x .count-is ∙ unrefused-go (bundleStop R s) (count s) (number-is ∙ z)
 
-    pub texts-all : Room texts lens → Texts R texts lens n
-    texts-all room =
-        held-texts R L s n texts lens (x .rows-are z .few) room (x .held z)
+    pub few : n ≤ 64
+    few = omega (arith, n-is, sound .frame .few)
+
+    pub texts-all : Texts R texts lens n
+    texts-all =
+        held-texts R L (row s) n texts lens (x .held z)
         (λ k h. sound .sense .meant .named k (omega (arith, n-is)))
 
     pub picked-query : empty (R .canon device) ≡ true → refusal 9 0 ≡ pick R s device
@@ -62,9 +66,11 @@ module _ (R : IdRules) (L : Lawful R) (s device texts lens : List ℕ) (number p
           sym (pick-none R s device asked
           (λ k l. first-before n (compatibleAt R s device) k (omega (arith, i-is, n-is))))
 
-      pub picked-image : i < n → (r : Row) → r ≡ getD rows i noRow
-          → _≡_ {A = Picked} (record { number = 0; place = 0; index = i; position = r .offset; size = r .size }) (pick R s device)
-      unfolding heldRow row rowAt
+      pub picked-image : i < n → (r : EntryRecord) → r ≡ getD rows i noRecord
+          → _≡_ {A = Picked} (record { number = 0; place = 0; index = i; position = r .«image_start»; size = r .«image_len» }) (pick R s device)
+      unfolding rowsOf recordAt rowOf
       picked-image h r p =
           let f : compatibleAt R s device i ≡ true = ap (compatibleAt R s device) i-is ∙ first-at n (compatibleAt R s device) (omega (arith, i-is)) in
-          rw (p, x .rows-are z .each i h) (sym (pick-found R L s device asked i (omega (arith, n-is)) f))
+          let e : rowOf s r ≡ row s i = ap (rowOf s) p ∙ x .rows-are z i h in
+          ap (λ q. record { number = 0; place = 0; index = i; position = q .offset; size = q .size }) e
+          ∙ sym (pick-found R L s device asked i (omega (arith, n-is)) f)

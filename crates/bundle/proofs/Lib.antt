@@ -8,5 +8,12 @@ pub mod Theorems
 pub mod RowLaws
 pub mod SlotLaws
 pub mod StageLaws
+pub mod RecordLaws
 pub mod ChoiceLaws
 pub mod IdLaws
+pub mod LayoutLaws
+pub mod ReadBack
+pub mod PackLaws
+pub mod SameLaws
+pub mod NormalLaws
+pub mod Demand

@@ -14,9 +14,10 @@ use Rattle.wire.specs.Stop.{earlier}
 use Rattle.wire.proofs.FirstLaws.{first-before}
 use Rattle.wire.proofs.OverwriteLaws.{overwrite-in}
 use Rattle.entry_id.specs.IdRules.{IdRules, Lawful}
-use Rattle.bundle.specs.Table.{row}
+use Rattle.bundle.specs.Table.{Row}
 use Rattle.bundle.specs.Check.{badId}
-use Rattle.bundle.specs.Code.{text, Texts, Held, Named, Room}
+use Rattle.bundle.specs.Records.{text, Held}
+use Rattle.bundle.specs.Code.{Texts, Named, Room}
 
 pub length-empty : (l : List ℕ) → length l ≡ 0 → empty l ≡ true
 unfolding empty
@@ -67,14 +68,14 @@ part-at t c at l =
 
 -- ---- the loop that writes the slots, at slot i: n bytes of it are the canonical form of row i's ID
 
-module _ (R : IdRules) (L : Lawful R) (s id texts after lens : List ℕ) (i n : ℕ) (few : i < 64) (room : Room texts lens)
-    (e : id ≡ row s i .id) (size : n ≡ length (R .canon id)) (written : after ≡ overwrite texts (i * 256) (R .canon id))
+module _ (R : IdRules) (L : Lawful R) (rows : ℕ → Row) (id texts after lens : List ℕ) (i n : ℕ) (few : i < 64) (room : Room texts lens)
+    (e : id ≡ rows i .id) (size : n ≡ length (R .canon id)) (written : after ≡ overwrite texts (i * 256) (R .canon id))
   where
     fits : i * 256 + length (R .canon id) ≤ length texts
     fits = omega (arith, L .canon-short id, room .texts-room)
 
     -- an earlier slot stays
-    kept : (k : ℕ) → k < i → Held R s texts lens k → Held R s after (set lens i n) k
+    kept : (k : ℕ) → k < i → Held R rows texts lens k → Held R rows after (set lens i n) k
     unfolding text
     kept k h p =
         let g : getD (set lens i n) k 0 ≡ getD lens k 0 = getD-set-other lens i k n 0 (λ (q : k ≡ i). omega arith) in
@@ -82,11 +83,11 @@ module _ (R : IdRules) (L : Lawful R) (s id texts after lens : List ℕ) (i n : 
           size = g ∙ p .size;
           text-is =
               ap₂ (λ l z. take l (drop (k * 256) z)) g written
-              ∙ part-before texts (R .canon id) (i * 256) (k * 256) (getD lens k 0) (omega (arith, p .size, L .canon-short (row s k .id))) fits
+              ∙ part-before texts (R .canon id) (i * 256) (k * 256) (getD lens k 0) (omega (arith, p .size, L .canon-short (rows k .id))) fits
               ∙ p .text-is;
         }
 
-    new : Held R s after (set lens i n) i
+    new : Held R rows after (set lens i n) i
     unfolding text
     new =
         let g : getD (set lens i n) i 0 ≡ length (R .canon id) = getD-set-same lens i n 0 (omega (arith, room .lens-room)) ∙ size in
@@ -95,47 +96,28 @@ module _ (R : IdRules) (L : Lawful R) (s id texts after lens : List ℕ) (i n : 
           text-is = ap₂ (λ l z. take l (drop (i * 256) z)) g written ∙ part-at texts (R .canon id) (i * 256) fits ∙ ap (R .canon) e;
         }
 
-    pub held-more : ((k : ℕ) → k < i → Held R s texts lens k) → (k : ℕ) → k < i + 1 → Held R s after (set lens i n) k
+    pub held-more : ((k : ℕ) → k < i → Held R rows texts lens k) → (k : ℕ) → k < i + 1 → Held R rows after (set lens i n) k
     held-more h = below-more _ i (λ k l. kept k l (h k l)) new
 
-    pub bad-here : n ≡ 0 → badId R (row s i) ≡ true
+    pub bad-here : n ≡ 0 → badId R (rows i) ≡ true
     unfolding badId
     bad-here z = ap (λ x. empty (R .canon x)) (sym e) ∙ length-empty (R .canon id) (sym size ∙ z)
 
-    pub fine-here : (n ≡ 0 → ⊥) → badId R (row s i) ≡ false
+    pub fine-here : (n ≡ 0 → ⊥) → badId R (rows i) ≡ false
     unfolding badId
     fine-here z = ap (λ x. empty (R .canon x)) (sym e) ∙ length-some (R .canon id) (λ (q : length (R .canon id) ≡ 0). z (size ∙ q))
 
 -- ---- the slots, as texts
 
-pub fewer : (R : IdRules) (texts lens : List ℕ) (n m : ℕ) → Texts R texts lens n → m ≤ n → Texts R texts lens m
-fewer R texts lens n m t h = record {
-  room = omega (arith, t .room);
-  lens-room = omega (arith, t .lens-room);
-  short = λ k l. t .short k (omega arith);
-  canonical = λ k l. t .canonical k (omega arith);
-}
-
-pub slot-in : (R : IdRules) (texts lens : List ℕ) (n k : ℕ) → Texts R texts lens n → k < n → (k * 256 + 256 ≤ length texts) × (k < length lens) × (getD lens k 0 ≤ 256)
-slot-in R texts lens n k t h = (omega (arith, t .room), omega (arith, t .lens-room), t .short k h)
-
 -- slots that hold the canonical IDs of rows whose IDs keep the rules
-pub held-texts : (R : IdRules) → Lawful R → (s : List ℕ) (n : ℕ) (texts lens : List ℕ) → n ≤ 64 → Room texts lens
-    → ((k : ℕ) → k < n → Held R s texts lens k) → ((k : ℕ) → k < n → badId R (row s k) ≡ false) → Texts R texts lens n
+pub held-texts : (R : IdRules) → Lawful R → (rows : ℕ → Row) (n : ℕ) (texts lens : List ℕ)
+    → ((k : ℕ) → k < n → Held R rows texts lens k) → ((k : ℕ) → k < n → badId R (rows k) ≡ false) → Texts R texts lens n
 unfolding badId
-held-texts R L s n texts lens few room held named = record {
-  room = omega (arith, room .texts-room);
-  lens-room = omega (arith, room .lens-room);
-  short = λ k h. rw (held k h .size) (L .canon-short (row s k .id));
-  canonical = λ k h. rw (held k h .text-is) (record { again = L .canon-again (row s k .id); some = named k h });
-}
+held-texts R L rows n texts lens held named k h = rw (held k h .text-is) (record { again = L .canon-again (rows k .id); some = named k h })
 
-pub named-texts : (R : IdRules) → Lawful R → (s : List ℕ) (n : ℕ) (texts lens : List ℕ) (bad : ℕ) → n ≤ 64 → Room texts lens → Named R s n texts lens bad → n ≤ bad → Texts R texts lens n
-named-texts R L s n texts lens bad few room nd none =
-    held-texts R L s n texts lens few room (nd .held none) (λ k h. first-before n (λ i. badId R (row s i)) k (omega (arith, nd .bad-is)))
-
-pub room-kept : (texts lens texts′ lens′ : List ℕ) → Room texts lens → length texts′ ≡ length texts → length lens′ ≡ length lens → Room texts′ lens′
-room-kept texts lens texts′ lens′ r p q = record { texts-room = p ∙ r .texts-room; lens-room = q ∙ r .lens-room }
+pub named-texts : (R : IdRules) → Lawful R → (rows : ℕ → Row) (n : ℕ) (texts lens : List ℕ) (bad : ℕ) → Named R rows n texts lens bad → n ≤ bad → Texts R texts lens n
+named-texts R L rows n texts lens bad nd none =
+    held-texts R L rows n texts lens (nd .held none) (λ k h. first-before n (λ i. badId R (rows i)) k (omega (arith, nd .bad-is)))
 
 -- an earlier slot was looked for: r is the first, or i
 module _ {A : Type 0} (related : A → A → Bool) (f : ℕ → A) (i r : ℕ) (e : r ≡ first i (λ j. related (f j) (f i))) where

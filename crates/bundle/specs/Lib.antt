@@ -5,4 +5,8 @@ pub mod Entry
 pub mod Pick
 pub mod Accepted
 pub mod Theorems
+pub mod Records
+pub mod Layout
+pub mod Normal
+pub mod Demand
 pub mod Code

@@ -1,17 +1,18 @@
 // The check of a bundle, and the pick of the image for a device name.
 ghost use mathlib.Core.Path.{_≡_};
 ghost use Prim.Native.Nat.{_+_, _*_, _<_, _≤_};
-ghost use lib.ListN.{length, getD, take, drop};
+ghost use lib.ListN.{length, getD, take, drop, replicate};
 ghost use Rattle.wire.specs.Bytes.{same, overwrite};
 ghost use Rattle.wire.specs.First.{first};
 ghost use Rattle.wire.specs.Stop.{stop, earlier};
 ghost use Rattle.entry_id.specs.Rules.{idRules};
-ghost use Rattle.bundle.specs.Table.{magic, row};
+ghost use Rattle.bundle.specs.Table.{magic};
 ghost use Rattle.bundle.specs.Check.{badRow, outside, headStop, rowsStop, check};
 ghost use Rattle.bundle.specs.Pick.{pick};
 ghost use Rattle.bundle.specs.Accepted.{RowFits};
 ghost use Rattle.bundle.specs.Theorems.{refusal};
-ghost use Rattle.bundle.specs.Code.{noRow, heldRow, Rows, Tabled, Room, text, Canonical, Texts, Named, relation, Judged, Examination};
+ghost use Rattle.bundle.specs.Records.{noRecord, recordAt, rowsOf, badPart, recordsStop, text, Judged, Examination};
+ghost use Rattle.bundle.specs.Code.{heldRow, Rows, Tabled, badRecord, IdsIn, Room, Canonical, Texts, Named, relation};
 
 // What a check returns: the refusal's number and place, or 0, 0 and the entry count.
 pub struct Checked {
@@ -29,33 +30,41 @@ pub struct Picked {
     pub size: u64,
 }
 
-// A row of the table: where the image starts, its size, where the ID starts, its length.
-struct Row {
-    offset: u64,
-    size: u64,
-    id: usize,
-    len: usize,
+// What a call that writes a bundle returns: the refusal's number and place, or 0, 0 and the length written.
+pub struct Written {
+    pub number: usize,
+    pub place: usize,
+    pub length: usize,
+}
+
+// An entry record: the part of a buffer that holds an entry's ID, and the part of a buffer that holds its image.
+// A row of a bundle's table is one: both buffers are the bundle.
+pub struct EntryRecord {
+    pub id_start: usize,
+    pub id_len: usize,
+    pub image_start: usize,
+    pub image_len: usize,
 }
 
 // The rows before the first bad one, which `bad` names; where none of them is bad, the table's end.
 struct Table {
-    rows: [Row; 64],
+    rows: [EntryRecord; 64],
     bad: usize,
     end: usize,
 }
 
 // A refusal; number 0: nothing is refused.
-struct Refusal {
-    number: usize,
-    place: usize,
+pub struct Refusal {
+    pub number: usize,
+    pub place: usize,
 }
 
 // A bundle as the check leaves it: the refusal, or 0, 0, the entry count and the rows.
-struct Examined {
-    number: usize,
-    place: usize,
-    count: usize,
-    rows: [Row; 64],
+pub struct Examined {
+    pub number: usize,
+    pub place: usize,
+    pub count: usize,
+    pub rows: [EntryRecord; 64],
 }
 
 fn magic_is(s: &[u8]) -> bool
@@ -108,29 +117,31 @@ fn bad_row(s: &[u8], from: usize) -> bool
     ((left - 24) as u64) < len
 }
 
-fn row_at(s: &[u8], at: usize) -> Row
+fn row_at(s: &[u8], at: usize) -> EntryRecord
     requires { ⌜ RowFits (now s) at ⌝ }
     ensures { λ r. ⌜ r ≡ heldRow (now (s .entry)) at ⌝ }
 {
-    let offset = wire::word8_at(s, at);
-    let size = wire::word8_at(s, at + 8);
+    let offset = wire::word8_at(s, at) as usize;
+    let size = wire::word8_at(s, at + 8) as usize;
     let len = wire::word8_at(s, at + 16) as usize;
-    Row {
-        offset: offset,
-        size: size,
-        id: at + 24,
-        len: len,
+    let id = at + 24;
+    EntryRecord {
+        id_start: id,
+        id_len: len,
+        image_start: offset,
+        image_len: size,
     }
 }
 
-fn no_rows() -> [Row; 64]
-    ensures { λ r. ⌜ length r ≡ 64 ⌝ }
+// The record of zeros in each of 64 places.
+pub fn no_records() -> [EntryRecord; 64]
+    ensures { λ r. ⌜ r ≡ replicate 64 noRecord ⌝ }
 {
-    let none = Row {
-        offset: 0,
-        size: 0,
-        id: 0,
-        len: 0,
+    let none = EntryRecord {
+        id_start: 0,
+        id_len: 0,
+        image_start: 0,
+        image_len: 0,
     };
     [none; 64]
 }
@@ -140,7 +151,7 @@ fn read_table(s: &[u8], n: usize) -> Table
     requires { ⌜ (32 ≤ length (now s)) × (n ≤ 64) ⌝ }
     ensures { λ r. ⌜ Tabled (now (s .entry)) n (r .rows) (r .bad) (r .end) ⌝ }
 {
-    let mut rows = no_rows();
+    let mut rows = no_records();
     let mut i: usize = 0;
     let mut at: usize = 32;
     while i < n {
@@ -153,7 +164,7 @@ fn read_table(s: &[u8], n: usize) -> Table
         }
         let row = row_at(s, at);
         rows[i] = row;
-        at = row.id + row.len;
+        at = row.id_start + row.id_len;
         i += 1;
     }
     Table {
@@ -164,27 +175,55 @@ fn read_table(s: &[u8], n: usize) -> Table
 }
 
 // 6 RANGE, of a row's image, in a container of `len` bytes. The sum is never made, so it cannot wrap.
-fn outside_row(row: Row, end: u64, len: u64) -> bool
-    ensures { λ r. ⌜ r ≡ outside end len (row .offset) (row .size) ⌝ }
+fn outside_row(row: EntryRecord, end: usize, len: usize) -> bool
+    ensures { λ r. ⌜ r ≡ outside end len (row .«image_start») (row .«image_len») ⌝ }
 {
-    let offset = row.offset;
+    let offset = row.image_start;
     if offset < end {
         return true;
     }
     if len < offset {
         return true;
     }
-    len - offset < row.size
+    len - offset < row.image_len
 }
 
-// The first row of n whose image is outside, or n.
-fn first_outside(rows: [Row; 64], n: usize, end: u64, len: u64) -> usize
+// 4 TABLE, of a record whose ID lies in a buffer of `room` bytes. The sum is never made, so it cannot wrap.
+fn bad_part(row: EntryRecord, room: usize) -> bool
+    ensures { λ r. ⌜ r ≡ badPart room row ⌝ }
+{
+    let start = row.id_start;
+    let len = row.id_len;
+    if len == 0 {
+        return true;
+    }
+    if 256 < len {
+        return true;
+    }
+    if room < start {
+        return true;
+    }
+    room - start < len
+}
+
+// Of a record: 4 TABLE in a buffer of IDs of `len` bytes, where `ids`; else 6 RANGE.
+fn bad_record(ids: bool, row: EntryRecord, end: usize, len: usize) -> bool
+    ensures { λ r. ⌜ r ≡ badRecord ids end len row ⌝ }
+{
+    if ids {
+        return bad_part(row, len);
+    }
+    outside_row(row, end, len)
+}
+
+// The first of n records that is bad, or n.
+fn first_bad(ids: bool, rows: [EntryRecord; 64], n: usize, end: usize, len: usize) -> usize
     requires { ⌜ n ≤ 64 ⌝ }
-    ensures { λ r. ⌜ r ≡ first n (λ i. outside end len (getD rows i noRow .offset) (getD rows i noRow .size)) ⌝ }
+    ensures { λ r. ⌜ r ≡ first n (λ i. badRecord ids end len (recordAt rows i)) ⌝ }
 {
     let mut i: usize = 0;
     while i < n {
-        if outside_row(rows[i], end, len) {
+        if bad_record(ids, rows[i], end, len) {
             return i;
         }
         i += 1;
@@ -202,14 +241,20 @@ fn canonical_at(s: &[u8], start: usize, len: usize, texts: &mut [u8], i: usize) 
 }
 
 // 5 ID: the first row of n whose ID breaks the rules, or n. Each canonical form is made once, in its slot.
-fn canonicals(s: &[u8], rows: [Row; 64], n: usize, texts: &mut [u8], lens: &mut [usize]) -> usize
-    requires { ⌜ Rows (now s) n rows × Room (now texts) (now lens) ⌝ }
-    ensures { λ r. ⌜ Named idRules (now (s .entry)) n (now (texts .exit)) (now (lens .exit)) r ⌝ }
+fn canonicals(
+    ids: &[u8],
+    rows: [EntryRecord; 64],
+    n: usize,
+    texts: &mut [u8],
+    lens: &mut [usize],
+) -> usize
+    requires { ⌜ IdsIn (now ids) n rows × Room (now texts) (now lens) ⌝ }
+    ensures { λ r. ⌜ Named idRules (rowsOf (now (ids .entry)) rows) n (now (texts .exit)) (now (lens .exit)) r ⌝ }
 {
     let mut i: usize = 0;
     while i < n {
         let row = rows[i];
-        let m = canonical_at(s, row.id, row.len, texts, i);
+        let m = canonical_at(ids, row.id_start, row.id_len, texts, i);
         if m == 0 {
             return i;
         }
@@ -220,12 +265,21 @@ fn canonicals(s: &[u8], rows: [Row; 64], n: usize, texts: &mut [u8], lens: &mut 
 }
 
 // The text of slot k: the slots of `texts` have 256 bytes each, `lens` has the lengths of what they hold.
-fn slot<'a, 'b>(texts: &'a [u8], lens: &'b [usize], k: usize) -> &'a [u8]
-    requires { ⌜ (k * 256 + 256 ≤ length (now texts)) × (k < length (now lens)) × (getD (now lens) k 0 ≤ 256) ⌝ }
+pub fn slot<'a, 'b>(texts: &'a [u8], lens: &'b [usize], k: usize) -> &'a [u8]
     ensures { λ r. ⌜ now r ≡ text (now (texts .entry)) (now (lens .entry)) k ⌝ }
 {
+    if lens.len() <= k {
+        return &texts[..0];
+    }
+    if texts.len() / 256 < k {
+        return &texts[..0];
+    }
     let a = k * 256;
-    let e = a + lens[k];
+    let len = lens[k];
+    if texts.len() - a < len {
+        return &texts[a..];
+    }
+    let e = a + len;
     &texts[a..e]
 }
 
@@ -273,20 +327,21 @@ fn first_related(twice: bool, texts: &[u8], lens: &[usize], n: usize) -> usize
     later
 }
 
-// 5 to 8: the first that refuses n rows, in a container whose table ends at `end`; else 0.
+// 5 to 8: the first that refuses n rows, in a container of `len` bytes whose table ends at `end`; else 0.
 fn judge(
-    s: &[u8],
-    rows: [Row; 64],
+    ids: &[u8],
+    rows: [EntryRecord; 64],
     n: usize,
     end: usize,
+    len: usize,
     texts: &mut [u8],
     lens: &mut [usize],
 ) -> Refusal
-    requires { ⌜ Rows (now s) n rows × Room (now texts) (now lens) ⌝ }
-    ensures { λ r. ⌜ Judged idRules (rowsStop idRules end (length (now (s .entry))) n (row (now (s .entry)))) (now (s .entry)) n (now (texts .exit)) (now (lens .exit)) (r .number) (r .place) ⌝ }
+    requires { ⌜ IdsIn (now ids) n rows × Room (now texts) (now lens) ⌝ }
+    ensures { λ r. ⌜ Judged idRules (rowsStop idRules end len n (rowsOf (now (ids .entry)) rows)) (rowsOf (now (ids .entry)) rows) n (now (texts .exit)) (now (lens .exit)) (r .number) (r .place) ⌝ }
 {
-    let bad_id = canonicals(s, rows, n, texts, lens);
-    let out = first_outside(rows, n, end as u64, s.len() as u64);
+    let bad_id = canonicals(ids, rows, n, texts, lens);
+    let out = first_bad(false, rows, n, end, len);
     if bad_id < n {
         return Refusal {
             number: 5,
@@ -319,8 +374,48 @@ fn judge(
     }
 }
 
-// 1 to 8 of a bundle: the first that refuses it; else its count and rows, with the canonical IDs in their slots.
-fn examine(s: &[u8], texts: &mut [u8], lens: &mut [usize]) -> Examined
+fn examine_records_in(
+    ids: &[u8],
+    rows: [EntryRecord; 64],
+    n: usize,
+    len: usize,
+    texts: &mut [u8],
+    lens: &mut [usize],
+) -> Refusal
+    requires { ⌜ Room (now texts) (now lens) ⌝ }
+    ensures { λ r. ⌜ Judged idRules (recordsStop idRules (now (ids .entry)) len n rows) (rowsOf (now (ids .entry)) rows) n (now (texts .exit)) (now (lens .exit)) (r .number) (r .place) ⌝ }
+{
+    if 64 < n {
+        return Refusal {
+            number: 3,
+            place: 0,
+        };
+    }
+    let bad = first_bad(true, rows, n, 0, ids.len());
+    if bad < n {
+        return Refusal {
+            number: 4,
+            place: bad,
+        };
+    }
+    judge(ids, rows, n, 0, len, texts, lens)
+}
+
+// 3 to 8 of n records, with IDs in `ids` and images in a buffer of `len` bytes: the first that refuses them; else 0, and the canonical IDs in their slots.
+pub fn examine_records(
+    ids: &[u8],
+    rows: [EntryRecord; 64],
+    n: usize,
+    len: usize,
+    texts: &mut [u8; 16384],
+    lens: &mut [usize; 64],
+) -> Refusal
+    ensures { λ r. ⌜ Judged idRules (recordsStop idRules (now (ids .entry)) len n rows) (rowsOf (now (ids .entry)) rows) n (now (texts .exit)) (now (lens .exit)) (r .number) (r .place) ⌝ }
+{
+    examine_records_in(ids, rows, n, len, texts, lens)
+}
+
+fn examine_in(s: &[u8], texts: &mut [u8], lens: &mut [usize]) -> Examined
     requires { ⌜ Room (now texts) (now lens) ⌝ }
     ensures { λ r. ⌜ Examination idRules (now (s .entry)) (now (texts .exit)) (now (lens .exit)) (r .number) (r .place) (r .count) (r .rows) ⌝ }
 {
@@ -330,7 +425,7 @@ fn examine(s: &[u8], texts: &mut [u8], lens: &mut [usize]) -> Examined
             number: first,
             place: 0,
             count: 0,
-            rows: no_rows(),
+            rows: no_records(),
         };
     }
     let n = wire::word8_at(s, 24) as usize;
@@ -345,7 +440,7 @@ fn examine(s: &[u8], texts: &mut [u8], lens: &mut [usize]) -> Examined
             rows: rows,
         };
     }
-    let r = judge(s, rows, n, t.end, texts, lens);
+    let r = judge(s, rows, n, t.end, s.len(), texts, lens);
     let number = r.number;
     let mut count = n;
     if 0 < number {
@@ -359,11 +454,18 @@ fn examine(s: &[u8], texts: &mut [u8], lens: &mut [usize]) -> Examined
     }
 }
 
+// 1 to 8 of a bundle: the first that refuses it; else its count and rows, with the canonical IDs in their slots.
+pub fn examine(bundle: &[u8], texts: &mut [u8; 16384], lens: &mut [usize; 64]) -> Examined
+    ensures { λ r. ⌜ Examination idRules (now (bundle .entry)) (now (texts .exit)) (now (lens .exit)) (r .number) (r .place) (r .count) (r .rows) ⌝ }
+{
+    examine_in(bundle, texts, lens)
+}
+
 fn check_in(s: &[u8], texts: &mut [u8], lens: &mut [usize]) -> Checked
     requires { ⌜ Room (now texts) (now lens) ⌝ }
     ensures { λ r. ⌜ r ≡ check idRules (now (s .entry)) ⌝ }
 {
-    let e = examine(s, texts, lens);
+    let e = examine_in(s, texts, lens);
     Checked {
         number: e.number,
         place: e.place,
@@ -420,7 +522,7 @@ fn pick_in(s: &[u8], device: &[u8], texts: &mut [u8], lens: &mut [usize], name: 
     requires { ⌜ Room (now texts) (now lens) × (length (now name) ≡ 256) ⌝ }
     ensures { λ r. ⌜ r ≡ pick idRules (now (s .entry)) (now (device .entry)) ⌝ }
 {
-    let e = examine(s, texts, lens);
+    let e = examine_in(s, texts, lens);
     let number = e.number;
     if 0 < number {
         return no_image(number, e.place);
@@ -440,8 +542,8 @@ fn pick_in(s: &[u8], device: &[u8], texts: &mut [u8], lens: &mut [usize], name: 
         number: 0,
         place: 0,
         index: i,
-        position: row.offset,
-        size: row.size,
+        position: row.image_start as u64,
+        size: row.image_len as u64,
     }
 }
 

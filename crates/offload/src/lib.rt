@@ -3,6 +3,8 @@ ghost use mathlib.Core.Path.{_≡_};
 ghost use Rattle.entry_id.specs.Rules.{idRules};
 ghost use Rattle.bundle.specs.Check.{check};
 ghost use Rattle.bundle.specs.Pick.{pick};
+ghost use Rattle.bundle.specs.Normal.{normalise, normalised};
+ghost use lib.ListN.{length};
 
 #[no_mangle]
 pub extern "C" fn offload_check_number(bundle: &[u8]) -> u64
@@ -58,4 +60,28 @@ pub extern "C" fn offload_pick_size(bundle: &[u8], device: &[u8]) -> u64
     ensures { λ r. ⌜ r ≡ pick idRules (now (bundle .entry)) (now (device .entry)) .size ⌝ }
 {
     bundle::pick(bundle, device).size
+}
+
+#[no_mangle]
+pub extern "C" fn offload_normalise_number(bundle: &[u8], out: &mut [u8]) -> u64
+    ensures { λ r. ⌜ r ≡ normalise idRules (now (bundle .entry)) (length (now (out .entry))) .number ⌝ }
+    ensures { λ _. ⌜ now (out .exit) ≡ normalised idRules (now (bundle .entry)) (now (out .entry)) ⌝ }
+{
+    normal_form::normalise(bundle, out).number as u64
+}
+
+#[no_mangle]
+pub extern "C" fn offload_normalise_place(bundle: &[u8], out: &mut [u8]) -> u64
+    ensures { λ r. ⌜ r ≡ normalise idRules (now (bundle .entry)) (length (now (out .entry))) .place ⌝ }
+    ensures { λ _. ⌜ now (out .exit) ≡ normalised idRules (now (bundle .entry)) (now (out .entry)) ⌝ }
+{
+    normal_form::normalise(bundle, out).place as u64
+}
+
+#[no_mangle]
+pub extern "C" fn offload_normalise_length(bundle: &[u8], out: &mut [u8]) -> u64
+    ensures { λ r. ⌜ r ≡ normalise idRules (now (bundle .entry)) (length (now (out .entry))) .length ⌝ }
+    ensures { λ _. ⌜ now (out .exit) ≡ normalised idRules (now (bundle .entry)) (now (out .entry)) ⌝ }
+{
+    normal_form::normalise(bundle, out).length as u64
 }

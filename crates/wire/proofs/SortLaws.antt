@@ -1,15 +1,20 @@
 -- Laws of lists in byte order of a key: what sorting keeps, that a set has one rising list, and when a sorted list rises. Assumes nothing.
-use Prim.Native.Nat.{ℕ, suc}
+use Prim.Native.Nat.{ℕ, zero, suc, _+_, _<_}
+use native.Mathlib.Omega.{arith}
 use mathlib.Core.Path.{_≡_, refl, sym, ap, _∙_, subst}
 use mathlib.Core.Logic.{_⊎_, inl, inr}
 use mathlib.Core.Bool.{Bool, true, false, not, _&&_, _||_}
-use mathlib.Core.List.{List, [], _∷_, List·Memᴰ, List·Memᴰ·head, List·Memᴰ·tail, List·Memᴰ·not-nil, List·Memᴰ·cases-cons}
-use lib.ListN.{length}
+use mathlib.Core.List.{List, [], _∷_, _++_, map, List·Memᴰ, List·Memᴰ·head, List·Memᴰ·tail, List·Memᴰ·not-nil, List·Memᴰ·cases-cons}
+use lib.ListN.{length, getD, take, drop}
+use lib.Seq.{drop-cons}
 use lib.Dec.{T, T-not}
 use Rattle.wire.specs.Bytes.{same, before}
-use Rattle.wire.specs.Lists.{every, any}
+use Rattle.wire.specs.Lists.{every, any, total}
 use Rattle.wire.specs.Order.{insertBy, sortBy, risingBy, distinctBy}
-use Rattle.wire.proofs.Bools.{and-l, and-r, and-t, is-true, cond-ind, cond-case}
+use Rattle.wire.proofs.Bools.{byBool, and-l, and-r, and-t, is-true, cond-ind, cond-case}
+use Rattle.wire.specs.First.{first}
+use Rattle.wire.proofs.FirstLaws.{first-yes, first-no}
+use Rattle.wire.proofs.ListLaws.{member-at, at-member}
 use Rattle.wire.proofs.ByteLaws.{same-refl, same-eq, before-irrefl, before-trans, before-other}
 
 nor-l : (a b : Bool) → T (not (a || b)) → T (not a)
@@ -245,3 +250,95 @@ module _ {A : Type 0} (key : A → List ℕ) where
   sort-rising (f ∷ g ∷ fs) t =
       rw (sort-rising (g ∷ fs) (and-r (before (key f) (key g)) (risingBy key (g ∷ fs)) t))
       (rw (is-true (before (key f) (key g)) (and-l (before (key f) (key g)) (risingBy key (g ∷ fs)) t)))
+
+  insert-total : (w : A → ℕ) (f : A) (l : List A) → total w (insertBy key f l) ≡ w f + total w l
+  unfolding insertBy total
+  insert-total w f [] = refl
+  insert-total w f (h ∷ l) =
+      cond-ind (λ r. total w r ≡ w f + (w h + total w l)) (before (key f) (key h)) (f ∷ h ∷ l) (h ∷ insertBy key f l) refl
+      (omega (arith, insert-total w f l))
+
+  pub sort-total : (w : A → ℕ) (l : List A) → total w (sortBy key l) ≡ total w l
+  unfolding sortBy total
+  sort-total w [] = refl
+  sort-total w (f ∷ l) = omega (arith, insert-total w f (sortBy key l), sort-total w l)
+
+  -- ---- lists with no key twice
+
+  pub distinct-at : (l : List A) (d : A) → T (distinctBy key l) → (j i : ℕ) → j < i → i < length l → key (getD l j d) ≡ key (getD l i d) → ⊥
+  unfolding distinctBy
+  distinct-at [] d t j i h b e = omega arith
+  distinct-at (f ∷ l) d t zero zero h b e = omega arith
+  distinct-at (f ∷ l) d t zero (suc i) h b e =
+      key-apart f l (and-l (not (any (λ g. same (key f) (key g)) l)) (distinctBy key l) t) (getD l i d) (at-member l d i (omega arith)) e
+  distinct-at (f ∷ l) d t (suc j) zero h b e = omega arith
+  distinct-at (f ∷ l) d t (suc j) (suc i) h b e =
+      distinct-at l d (and-r (not (any (λ g. same (key f) (key g)) l)) (distinctBy key l) t) j i (omega arith) (omega arith) e
+
+  pub distinct-of : (l : List A) (d : A) → ((j i : ℕ) → j < i → i < length l → key (getD l j d) ≡ key (getD l i d) → ⊥) → T (distinctBy key l)
+  unfolding distinctBy
+  distinct-of [] d h = tt
+  distinct-of (f ∷ l) d h =
+      and-t (not (any (λ g. same (key f) (key g)) l)) (distinctBy key l)
+      (apart-key f l (λ g m e. let p = member-at l d g m in h zero (suc (p .0)) (omega arith) (omega (arith, p .1)) (e ∙ ap key (p .2))))
+      (distinct-of l d (λ j i a b. h (suc j) (suc i) (omega arith) (omega arith)))
+
+  pub sort-again : (l : List A) → T (distinctBy key l) → sortBy key (sortBy key l) ≡ sortBy key l
+  sort-again l t = sort-rising (sortBy key l) (distinct-rising l t)
+
+  pub sort-distinct : (l : List A) → T (distinctBy key l) → T (distinctBy key (sortBy key l))
+  sort-distinct l t = rising-distinct (sortBy key l) (rw (sort-again l t) (distinct-rising l t))
+
+  -- the same members in one order, and only the same members
+  pub sort-same : (l m : List A) → T (distinctBy key l) → T (distinctBy key m)
+      → ((f : A) → List·Memᴰ f l → List·Memᴰ f m) → ((f : A) → List·Memᴰ f m → List·Memᴰ f l) → sortBy key l ≡ sortBy key m
+  sort-same l m s t p q =
+      one-list (sortBy key l) (sortBy key m) (distinct-rising l s) (distinct-rising m t)
+      (λ f h. sort-in f m (p f (sort-out f l h)))
+      (λ f h. sort-in f l (q f (sort-out f m h)))
+
+  pub same-sort : (l m : List A) → sortBy key l ≡ sortBy key m → (f : A) → List·Memᴰ f l → List·Memᴰ f m
+  same-sort l m e f h = sort-out f m (rw e at (sort-in f l h))
+
+  -- ---- as code sorts
+
+  insert-here : (f h : A) (l : List A) → before (key f) (key h) ≡ true → insertBy key f (h ∷ l) ≡ f ∷ h ∷ l
+  unfolding insertBy
+  insert-here f h l e = rw e
+
+  insert-on : (f h : A) (l : List A) → before (key f) (key h) ≡ false → insertBy key f (h ∷ l) ≡ h ∷ insertBy key f l
+  unfolding insertBy
+  insert-on f h l e = rw e
+
+  -- an element goes in before the first that it stands before
+  unfoldable pub spot : A → A → List A → ℕ
+  spot d f l = first (length l) (λ j. before (key f) (key (getD l j d)))
+
+  pub insert-at : (d f : A) (l : List A) → insertBy key f l ≡ take (spot d f l) l ++ (f ∷ drop (spot d f l) l)
+  unfolding insertBy spot first
+  insert-at d f [] = refl
+  insert-at d f (h ∷ l) =
+      let p : ℕ → Bool = λ j. before (key f) (key (getD (h ∷ l) j d)) in
+      byBool (before (key f) (key h))
+      (λ e. insert-here f h l e ∙ ap (λ k. take k (h ∷ l) ++ (f ∷ drop k (h ∷ l))) (sym (first-yes (length l) p e)))
+      (λ e. insert-on f h l e ∙ ap (λ r. h ∷ r) (insert-at d f l) ∙ ap (λ k. take k (h ∷ l) ++ (f ∷ drop k (h ∷ l))) (sym (first-no (length l) p e)))
+
+  -- the elements from i on in order, one more at the front
+  pub sort-drop : (d : A) (l : List A) (i : ℕ) → i < length l → sortBy key (drop i l) ≡ insertBy key (getD l i d) (sortBy key (drop (suc i) l))
+  unfolding sortBy
+  sort-drop d l i h = ap (sortBy key) (drop-cons l i d h)
+
+-- elements in order of their images' keys are the images in order
+module _ {A B : Type 0} (f : A → B) (key : B → List ℕ) where
+  insert-map : (x : A) (l : List A) → map f (insertBy (λ a. key (f a)) x l) ≡ insertBy key (f x) (map f l)
+  unfolding insertBy
+  insert-map x [] = refl
+  insert-map x (y ∷ l) =
+      byBool (before (key (f x)) (key (f y)))
+      (λ t. ap (map f) (insert-here (λ a. key (f a)) x y l t) ∙ sym (insert-here key (f x) (f y) (map f l) t))
+      (λ t. ap (map f) (insert-on (λ a. key (f a)) x y l t) ∙ ap (λ r. f y ∷ r) (insert-map x l) ∙ sym (insert-on key (f x) (f y) (map f l) t))
+
+  pub sort-map : (l : List A) → map f (sortBy (λ a. key (f a)) l) ≡ sortBy key (map f l)
+  unfolding sortBy
+  sort-map [] = refl
+  sort-map (x ∷ l) = insert-map x (sortBy (λ a. key (f a)) l) ∙ ap (insertBy key (f x)) (sort-map l)

@@ -1,4 +1,5 @@
--- Tests on lists. Definitions only.
+-- Tests on lists, and sums over them. Definitions only.
+use Prim.Native.Nat.{ℕ, _+_}
 use mathlib.Core.Bool.{Bool, true, false, _&&_, _||_}
 use mathlib.Core.List.{List, [], _∷_}
 
@@ -18,3 +19,8 @@ agree t [] [] = true
 agree t [] (y ∷ b) = false
 agree t (x ∷ a) [] = false
 agree t (x ∷ a) (y ∷ b) = t x y && agree t a b
+
+-- one number for each element, added up
+unfoldable pub total : {A : Type 0} → (A → ℕ) → List A → ℕ
+total f [] = 0
+total f (x ∷ l) = f x + total f l

@@ -1,6 +1,6 @@
 use Rattle.bundle.proofs.canonicals.Statement.{statement}
 use Rattle.bundle.proofs.canonicals.Tie as tie
-use mathlib.Core.Path.{_≡_, sym, _∙_}
+use mathlib.Core.Path.{_≡_, refl, sym, _∙_}
 use native.Mathlib.Omega.{arith}
 use Prim.Native.Nat.{ℕ, _-_, _≤_, _<_}
 use borrow.Author.Needs.{needs}
@@ -10,17 +10,16 @@ use lib.ListN.{getD, take, drop, length-set}
 use Rattle.wire.proofs.FirstLaws.{first-is, first-none}
 use Rattle.entry_id.specs.Rules.{idRules}
 use Rattle.entry_id.proofs.RuleLaws.{idRules-lawful}
-use Rattle.bundle.specs.Table.{rowStart, row}
 use Rattle.bundle.specs.Check.{badId}
-use Rattle.bundle.specs.Code.{noRow, Room, Held}
-use Rattle.bundle.proofs.RowLaws.{row-inside, row-id}
+use Rattle.bundle.specs.Records.{noRecord, recordAt, rowOf, rowsOf, Held}
+use Rattle.bundle.specs.Code.{Room}
 use Rattle.bundle.proofs.SlotLaws.{held-more, bad-here, fine-here}
 
 abbrev Inv-loop : tie.InvT-loop
-Inv-loop s n texts₀ lens₀ rows i₀ texts lens i = (i ≤ n) × Room texts lens × ((k : ℕ) → k < i → Held idRules s texts lens k) × ((k : ℕ) → k < i → badId idRules (row s k) ≡ false)
+Inv-loop ids n texts₀ lens₀ rows i₀ texts lens i = (i ≤ n) × Room texts lens × ((k : ℕ) → k < i → Held idRules (rowsOf ids rows) texts lens k) × ((k : ℕ) → k < i → badId idRules (rowsOf ids rows k) ≡ false)
 
 abbrev μ-loop : tie.MeasureT-loop
-μ-loop s n texts₀ lens₀ rows i₀ texts lens i = n - i
+μ-loop ids n texts₀ lens₀ rows i₀ texts lens i = n - i
 
 loop-holds : tie.Need-loop-holds Inv-loop μ-loop
 loop-holds c = (omega arith, c .before .before .before .pre .1, below-none _, below-none _)
@@ -33,8 +32,7 @@ array-copy-out-row c = search needs
 
 canonical-at-requires : tie.Need-canonical-at-requires Inv-loop μ-loop
 canonical-at-requires c κs = let l = c .before .before .before .loop in
-    let s = c .before .before .before .before .before .before .before .args .s .now in
-    (row-inside s (rowStart s (l .i)) _ (c .before .before .before .before .before .before .before .pre .0 .each (l .i) (omega arith)) (c .before .before .before .before .before .before .before .pre .0 .fits (l .i) (omega arith)), omega (arith, l .inv .1 .texts-room, c .before .before .before .before .before .before .before .pre .0 .few))
+    (c .before .before .before .before .before .before .before .pre .0 .inside (l .i) (omega arith), omega (arith, l .inv .1 .texts-room, c .before .before .before .before .before .before .before .pre .0 .few))
 
 same-length : tie.Need-same-length Inv-loop μ-loop
 same-length c = search needs
@@ -43,16 +41,17 @@ same-length-2 : tie.Need-same-length-2 Inv-loop μ-loop
 same-length-2 c = search needs
 
 returns : tie.Need-returns Inv-loop μ-loop
+unfolding rowsOf recordAt rowOf
 returns c = let l = c .before .before .before .before .before .before .before .loop in
-    let s = c .before .before .before .before .before .before .before .before .before .before .before .args .s .now in
-    let d = getD (c .before .before .before .before .before .before .before .before .before .before .before .args .t2) (l .i) noRow in
+    let ids = c .before .before .before .before .before .before .before .before .before .before .before .args .ids .now in
+    let rows = c .before .before .before .before .before .before .before .before .before .before .before .args .t2 in
+    let d = getD rows (l .i) noRecord in
     let m = c .before .before .before .canonical-at in
     let after = m .last .1 .1 .1 .0 in
-    let id = take (d .len) (drop (d .id) s) in
-    let e = row-id s (l .i) d (c .before .before .before .before .before .before .before .before .before .before .before .pre .0 .each (l .i) (omega arith)) in
+    let id = take (d .«id_len») (drop (d .«id_start») ids) in
     let k : l .i < 64 = omega (arith, c .before .before .before .before .before .before .before .before .before .before .before .pre .0 .few) in
     record {
-      bad-is = sym (first-is _ _ (l .i) (omega arith) (bad-here idRules idRules-lawful s id (l .texts) after (l .lens) (l .i) (m .result) k (l .inv .1) e (m .ensures .0) (m .ensures .1) (c .if1 .taken)) (l .inv .3));
+      bad-is = sym (first-is _ _ (l .i) (omega arith) (bad-here idRules idRules-lawful (rowsOf ids rows) id (l .texts) after (l .lens) (l .i) (m .result) k (l .inv .1) refl (m .ensures .0) (m .ensures .1) (c .if1 .taken)) (l .inv .3));
       held = λ q. absurd (omega arith);
     }
 
@@ -69,18 +68,19 @@ loop-less : tie.Need-loop-less Inv-loop μ-loop
 loop-less c = search needs
 
 loop-again : tie.Need-loop-again Inv-loop μ-loop
+unfolding rowsOf recordAt rowOf
 loop-again c = let l = c .before .before .before .before .before .before .before .loop in
-    let s = c .before .before .before .before .before .before .before .before .before .before .before .args .s .now in
-    let d = getD (c .before .before .before .before .before .before .before .before .before .before .before .args .t2) (l .i) noRow in
+    let ids = c .before .before .before .before .before .before .before .before .before .before .before .args .ids .now in
+    let rows = c .before .before .before .before .before .before .before .before .before .before .before .args .t2 in
+    let d = getD rows (l .i) noRecord in
     let m = c .before .before .before .canonical-at in
     let after = m .last .1 .1 .1 .0 in
-    let id = take (d .len) (drop (d .id) s) in
-    let e = row-id s (l .i) d (c .before .before .before .before .before .before .before .before .before .before .before .pre .0 .each (l .i) (omega arith)) in
+    let id = take (d .«id_len») (drop (d .«id_start») ids) in
     let k : l .i < 64 = omega (arith, c .before .before .before .before .before .before .before .before .before .before .before .pre .0 .few) in (
       omega arith,
       record { texts-room = omega (arith, m .kept .1 .1 .1 .0, l .inv .1 .texts-room); lens-room = simp length-set (l .inv .1 .lens-room) },
-      held-more idRules idRules-lawful s id (l .texts) after (l .lens) (l .i) (m .result) k (l .inv .1) e (m .ensures .0) (m .ensures .1) (l .inv .2),
-      below-more _ (l .i) (l .inv .3) (fine-here idRules idRules-lawful s id (l .texts) after (l .lens) (l .i) (m .result) k (l .inv .1) e (m .ensures .0) (m .ensures .1) (c .if1 .left)),
+      held-more idRules idRules-lawful (rowsOf ids rows) id (l .texts) after (l .lens) (l .i) (m .result) k (l .inv .1) refl (m .ensures .0) (m .ensures .1) (l .inv .2),
+      below-more _ (l .i) (l .inv .3) (fine-here idRules idRules-lawful (rowsOf ids rows) id (l .texts) after (l .lens) (l .i) (m .result) k (l .inv .1) refl (m .ensures .0) (m .ensures .1) (c .if1 .left)),
     )
 
 same-length-3 : tie.Need-same-length-3 Inv-loop μ-loop

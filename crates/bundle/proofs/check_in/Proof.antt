@@ -4,8 +4,8 @@ use Rattle.bundle.proofs.check_in.Tie as tie
 use Rattle.bundle.proofs.StageLaws.{checked}
 use Rattle.entry_id.specs.Rules.{idRules}
 
-examine-requires : tie.Need-examine-requires
-examine-requires c κs = search needs
+examine-in-requires : tie.Need-examine-in-requires
+examine-in-requires c κs = search needs
 
 same-length : tie.Need-same-length
 same-length c = search needs
@@ -14,7 +14,7 @@ same-length-2 : tie.Need-same-length-2
 same-length-2 c = search needs
 
 returns : tie.Need-returns
-returns c = checked idRules _ _ _ _ _ _ _ (c .before .before .before .before .examine .ensures)
+returns c = checked idRules _ _ _ _ _ _ _ (c .before .before .before .before .examine-in .ensures)
 
 pub check-in-spec : {M : Type 1} → statement M
-check-in-spec = tie.close (tie.spec examine-requires same-length same-length-2 returns)
+check-in-spec = tie.close (tie.spec examine-in-requires same-length same-length-2 returns)

@@ -7,9 +7,8 @@ use borrow.Author.Needs.{needs}
 use borrow.Author.Count.{below-more, below-none}
 use mathlib.Core.Bool.{false}
 use Rattle.entry_id.specs.Rules.{idRules}
-use Rattle.bundle.specs.Code.{text}
+use Rattle.bundle.specs.Records.{text}
 use Rattle.wire.proofs.FirstLaws.{first-is, first-none}
-use Rattle.bundle.proofs.SlotLaws.{fewer}
 
 abbrev Inv-loop : tie.InvT-loop
 Inv-loop texts lens n name k₀ k = (k ≤ n) × ((j : ℕ) → j < k → idRules .compatible (text texts lens j) name ≡ false)
@@ -22,7 +21,7 @@ loop-holds c = (omega arith, below-none _)
 
 compatible-at-requires : tie.Need-compatible-at-requires Inv-loop μ-loop
 compatible-at-requires c κs = let p = c .before .before .before .before .before .pre in
-    (fewer _ _ _ _ _ (p .0) (omega arith), p .1)
+    ((λ k l. p .0 k (omega arith)), p .1)
 
 returns : tie.Need-returns Inv-loop μ-loop
 returns c = let l = c .before .before .before .loop in

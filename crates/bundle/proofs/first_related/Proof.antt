@@ -7,10 +7,11 @@ use borrow.Author.Needs.{needs}
 use borrow.Author.Count.{below-more, below-none}
 use mathlib.Core.Bool.{false}
 use Rattle.entry_id.specs.Rules.{idRules}
-use Rattle.bundle.specs.Code.{text, relation}
+use Rattle.bundle.specs.Records.{text}
+use Rattle.bundle.specs.Code.{relation}
 use Rattle.wire.proofs.FirstLaws.{first-is, first-none}
 use Rattle.wire.specs.Stop.{earlier}
-use Rattle.bundle.proofs.SlotLaws.{fewer, earlier-found, earlier-clear}
+use Rattle.bundle.proofs.SlotLaws.{earlier-found, earlier-clear}
 
 abbrev Inv-loop : tie.InvT-loop
 Inv-loop twice texts lens n later₀ later = (later ≤ n) × ((k : ℕ) → k < later → earlier (relation idRules twice) (text texts lens) k ≡ false)
@@ -22,7 +23,7 @@ loop-holds : tie.Need-loop-holds Inv-loop μ-loop
 loop-holds c = (omega arith, below-none _)
 
 related-before-requires : tie.Need-related-before-requires Inv-loop μ-loop
-related-before-requires c κs = fewer _ _ _ _ _ (c .before .before .before .before .pre) (omega arith)
+related-before-requires c κs k l = c .before .before .before .before .pre k (omega arith)
 
 returns : tie.Need-returns Inv-loop μ-loop
 returns c = let l = c .before .before .before .loop in

@@ -2,15 +2,15 @@ use borrow.Author.Needs.{needs}
 use Rattle.bundle.proofs.pick_in.Statement.{statement}
 use Rattle.bundle.proofs.pick_in.Tie as tie
 use native.Mathlib.Omega.{arith}
+use mathlib.Core.List.{[]}
 use mathlib.Core.Path.{refl, sym, _∙_}
 use Rattle.entry_id.specs.Rules.{idRules}
 use Rattle.entry_id.proofs.RuleLaws.{idRules-lawful}
-use Rattle.bundle.proofs.SlotLaws.{room-kept}
 use Rattle.bundle.proofs.IdLaws.{Made, name-fits, name-length, name-is, name-none, name-some, name-canonical}
-use Rattle.bundle.proofs.ChoiceLaws.{picked-stop, picked-query, texts-all, picked-none, picked-image}
+use Rattle.bundle.proofs.ChoiceLaws.{few, picked-stop, picked-query, texts-all, picked-none, picked-image}
 
-examine-requires : tie.Need-examine-requires
-examine-requires c κs = search needs
+examine-in-requires : tie.Need-examine-in-requires
+examine-in-requires c κs = search needs
 
 no-image-requires : tie.Need-no-image-requires
 no-image-requires c κs = search needs
@@ -22,7 +22,7 @@ same-length-2 : tie.Need-same-length-2
 same-length-2 c = search needs
 
 returns : tie.Need-returns
-returns c = c .no-image .ensures ∙ picked-stop idRules idRules-lawful _ (c .before .before .before .before .before .before .before .before .before .before .before .before .before .before .args .device .now) _ _ _ _ _ _ (c .before .before .before .before .before .before .examine .ensures) (c .before .if1 .taken)
+returns c = c .no-image .ensures ∙ picked-stop idRules idRules-lawful _ (c .before .before .before .before .before .before .before .before .before .before .before .before .before .before .args .device .now) _ _ _ _ _ _ (c .before .before .before .before .before .before .examine-in .ensures) (c .before .if1 .taken)
 
 canonical-requires : tie.Need-canonical-requires
 canonical-requires c κs = search needs
@@ -42,7 +42,7 @@ same-length-5 c = search needs
 returns-2 : tie.Need-returns-2
 returns-2 c = let k = c .before .before .before .before .canonical in
     let m : Made (c .before .before .before .before .before .before .before .before .before .before .before .before .before .before .before .before .before .before .before .args .device .now) (c .before .before .before .before .before .before .before .before .before .before .before .before .before .before .before .before .before .before .before .args .name .now) (k .last .1 .0) (k .result) = record { size = k .ensures .0; text = k .ensures .1 } in
-    c .no-image2 .ensures ∙ picked-query idRules idRules-lawful _ (c .before .before .before .before .before .before .before .before .before .before .before .before .before .before .before .before .before .before .before .args .device .now) _ _ _ _ _ _ (c .before .before .before .before .before .before .before .before .before .before .before .examine .ensures) (omega arith) (name-none _ _ _ _ (c .before .before .before .before .before .before .before .before .before .before .before .before .before .before .before .before .before .before .before .pre .1) m (c .before .if2 .taken))
+    c .no-image2 .ensures ∙ picked-query idRules idRules-lawful _ (c .before .before .before .before .before .before .before .before .before .before .before .before .before .before .before .before .before .before .before .args .device .now) _ _ _ _ _ _ (c .before .before .before .before .before .before .before .before .before .before .before .examine-in .ensures) (omega arith) (name-none _ _ _ _ (c .before .before .before .before .before .before .before .before .before .before .before .before .before .before .before .before .before .before .before .pre .1) m (c .before .if2 .taken))
 
 slice-reshare-prefix-first-compatible : tie.Need-slice-reshare-prefix-first-compatible
 slice-reshare-prefix-first-compatible c = let k = c .before .before .before .before .before .canonical in
@@ -57,7 +57,7 @@ slice-aggregate-first-compatible c = let k = c .before .before .before .before .
 first-compatible-requires : tie.Need-first-compatible-requires
 first-compatible-requires c κs = let k = c .before .before .before .before .before .before .canonical in
     let m : Made (c .before .before .before .before .before .before .before .before .before .before .before .before .before .before .before .before .before .before .before .before .before .args .device .now) (c .before .before .before .before .before .before .before .before .before .before .before .before .before .before .before .before .before .before .before .before .before .args .name .now) (k .last .1 .0) (k .result) = record { size = k .ensures .0; text = k .ensures .1 } in
-    (texts-all idRules idRules-lawful _ (c .before .before .before .before .before .before .before .before .before .before .before .before .before .before .before .before .before .before .before .before .before .args .device .now) _ _ _ _ _ _ (c .before .before .before .before .before .before .before .before .before .before .before .before .before .examine .ensures) (omega arith) (room-kept _ _ _ _ (c .before .before .before .before .before .before .before .before .before .before .before .before .before .before .before .before .before .before .before .before .before .pre .0) (c .before .before .before .before .before .before .before .before .before .before .before .before .before .examine .kept .1 .0) (c .before .before .before .before .before .before .before .before .before .before .before .before .before .examine .kept .1 .1 .0)), name-canonical _ _ _ _ (c .before .before .before .before .before .before .before .before .before .before .before .before .before .before .before .before .before .before .before .before .before .pre .1) m (c .before .before .before .if2 .left))
+    (texts-all idRules idRules-lawful _ (c .before .before .before .before .before .before .before .before .before .before .before .before .before .before .before .before .before .before .before .before .before .args .device .now) _ _ _ _ _ _ (c .before .before .before .before .before .before .before .before .before .before .before .before .before .examine-in .ensures) (omega arith), name-canonical _ _ _ _ (c .before .before .before .before .before .before .before .before .before .before .before .before .before .before .before .before .before .before .before .before .before .pre .1) m (c .before .before .before .if2 .left))
 
 no-image-requires-3 : tie.Need-no-image-requires-3
 no-image-requires-3 c κs = search needs
@@ -74,13 +74,13 @@ same-length-8 c = search needs
 returns-3 : tie.Need-returns-3
 returns-3 c = let k = c .before .before .before .before .before .before .before .before .before .canonical in
     let m : Made (c .before .before .before .before .before .before .before .before .before .before .before .before .before .before .before .before .before .before .before .before .before .before .before .before .args .device .now) (c .before .before .before .before .before .before .before .before .before .before .before .before .before .before .before .before .before .before .before .before .before .before .before .before .args .name .now) (k .last .1 .0) (k .result) = record { size = k .ensures .0; text = k .ensures .1 } in
-    c .no-image3 .ensures ∙ picked-none idRules idRules-lawful _ (c .before .before .before .before .before .before .before .before .before .before .before .before .before .before .before .before .before .before .before .before .before .before .before .before .args .device .now) _ _ _ _ _ _ (c .before .before .before .before .before .before .before .before .before .before .before .before .before .before .before .before .examine .ensures) (omega arith) _ (name-is _ _ _ _ (c .before .before .before .before .before .before .before .before .before .before .before .before .before .before .before .before .before .before .before .before .before .before .before .before .pre .1) m) (name-some _ _ _ _ (c .before .before .before .before .before .before .before .before .before .before .before .before .before .before .before .before .before .before .before .before .before .before .before .before .pre .1) m (c .before .before .before .before .before .before .if2 .left)) _ (c .before .before .first-compatible .ensures) (c .before .if3 .taken)
+    c .no-image3 .ensures ∙ picked-none idRules idRules-lawful _ (c .before .before .before .before .before .before .before .before .before .before .before .before .before .before .before .before .before .before .before .before .before .before .before .before .args .device .now) _ _ _ _ _ _ (c .before .before .before .before .before .before .before .before .before .before .before .before .before .before .before .before .examine-in .ensures) (omega arith) _ (name-is _ _ _ _ (c .before .before .before .before .before .before .before .before .before .before .before .before .before .before .before .before .before .before .before .before .before .before .before .before .pre .1) m) (name-some _ _ _ _ (c .before .before .before .before .before .before .before .before .before .before .before .before .before .before .before .before .before .before .before .before .before .before .before .before .pre .1) m (c .before .before .before .before .before .before .if2 .left)) _ (c .before .before .first-compatible .ensures) (c .before .if3 .taken)
 
 mul-row : tie.Need-mul-row
-mul-row c = omega (arith, c .before .before .before .before .before .before .before .before .before .before .before .before .before .before .before .before .examine .ensures .rows-are (omega arith) .few)
+mul-row c = omega (arith, few idRules idRules-lawful _ [] _ _ _ _ _ _ (c .before .before .before .before .before .before .before .before .before .before .before .before .before .before .before .before .examine-in .ensures) (omega arith))
 
 array-copy-out-row : tie.Need-array-copy-out-row
-array-copy-out-row c = omega (arith, c .before .before .before .before .before .before .before .before .before .before .before .before .before .before .before .before .examine .ensures .rows-are (omega arith) .few)
+array-copy-out-row c = omega (arith, few idRules idRules-lawful _ [] _ _ _ _ _ _ (c .before .before .before .before .before .before .before .before .before .before .before .before .before .before .before .before .examine-in .ensures) (omega arith))
 
 same-length-9 : tie.Need-same-length-9
 same-length-9 c = search needs
@@ -94,13 +94,13 @@ same-length-11 c = search needs
 returns-4 : tie.Need-returns-4
 returns-4 c = let k = c .before .before .before .before .before .before .before .before .before .before .canonical in
     let m : Made (c .before .before .before .before .before .before .before .before .before .before .before .before .before .before .before .before .before .before .before .before .before .before .before .before .before .args .device .now) (c .before .before .before .before .before .before .before .before .before .before .before .before .before .before .before .before .before .before .before .before .before .before .before .before .before .args .name .now) (k .last .1 .0) (k .result) = record { size = k .ensures .0; text = k .ensures .1 } in
-    picked-image idRules idRules-lawful _ (c .before .before .before .before .before .before .before .before .before .before .before .before .before .before .before .before .before .before .before .before .before .before .before .before .before .args .device .now) _ _ _ _ _ _ (c .before .before .before .before .before .before .before .before .before .before .before .before .before .before .before .before .before .examine .ensures) (omega arith) _ (name-is _ _ _ _ (c .before .before .before .before .before .before .before .before .before .before .before .before .before .before .before .before .before .before .before .before .before .before .before .before .before .pre .1) m) (name-some _ _ _ _ (c .before .before .before .before .before .before .before .before .before .before .before .before .before .before .before .before .before .before .before .before .before .before .before .before .before .pre .1) m (c .before .before .before .before .before .before .before .if2 .left)) _ (c .before .before .before .first-compatible .ensures) (c .before .before .if3 .left) _ refl
+    picked-image idRules idRules-lawful _ (c .before .before .before .before .before .before .before .before .before .before .before .before .before .before .before .before .before .before .before .before .before .before .before .before .before .args .device .now) _ _ _ _ _ _ (c .before .before .before .before .before .before .before .before .before .before .before .before .before .before .before .before .before .examine-in .ensures) (omega arith) _ (name-is _ _ _ _ (c .before .before .before .before .before .before .before .before .before .before .before .before .before .before .before .before .before .before .before .before .before .before .before .before .before .pre .1) m) (name-some _ _ _ _ (c .before .before .before .before .before .before .before .before .before .before .before .before .before .before .before .before .before .before .before .before .before .before .before .before .before .pre .1) m (c .before .before .before .before .before .before .before .if2 .left)) _ (c .before .before .before .first-compatible .ensures) (c .before .before .if3 .left) _ refl
 
 pub pick-in-spec : {M : Type 1} → statement M
 pick-in-spec =
     tie.close
     (tie.spec
-    examine-requires
+    examine-in-requires
     no-image-requires
     same-length
     same-length-2

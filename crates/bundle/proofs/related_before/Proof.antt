@@ -7,7 +7,8 @@ use borrow.Author.Needs.{needs}
 use borrow.Author.Count.{below-more, below-none}
 use mathlib.Core.Bool.{false}
 use Rattle.entry_id.specs.Rules.{idRules}
-use Rattle.bundle.specs.Code.{text, relation}
+use Rattle.bundle.specs.Records.{text}
+use Rattle.bundle.specs.Code.{relation}
 use Rattle.wire.proofs.FirstLaws.{first-is, first-none}
 
 abbrev Inv-loop : tie.InvT-loop

@@ -18,8 +18,8 @@ add-word8-at-2 c = search needs
 word8-at-requires-3 : tie.Need-word8-at-requires-3
 word8-at-requires-3 c κs = search needs
 
-add-t6 : tie.Need-add-t6
-add-t6 c = search needs
+add-id : tie.Need-add-id
+add-id c = search needs
 
 returns : tie.Need-returns
 unfolding heldRow
@@ -34,5 +34,5 @@ row-at-spec =
     word8-at-requires-2
     add-word8-at-2
     word8-at-requires-3
-    add-t6
+    add-id
     returns)

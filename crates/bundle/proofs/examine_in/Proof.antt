@@ -1,19 +1,19 @@
 use borrow.Author.Needs.{needs}
-use Rattle.bundle.proofs.examine.Statement.{statement}
-use Rattle.bundle.proofs.examine.Tie as tie
+use Rattle.bundle.proofs.examine_in.Statement.{statement}
+use Rattle.bundle.proofs.examine_in.Tie as tie
 use native.Mathlib.Omega.{arith}
 use mathlib.Core.Path.{ap, sym, _∙_}
 use Rattle.entry_id.specs.Rules.{idRules}
 use Rattle.bundle.specs.Table.{count}
-use Rattle.bundle.proofs.RowLaws.{rows-all}
+use Rattle.bundle.proofs.RowLaws.{rows-all, ids-in}
 use Rattle.bundle.proofs.AcceptLaws.{counted}
 use Rattle.bundle.proofs.StageLaws.{examined-head, examined-table, examined-rows, examined-all}
 
 head-requires : tie.Need-head-requires
 head-requires c κs = search needs
 
-no-rows-requires : tie.Need-no-rows-requires
-no-rows-requires c κs = search needs
+no-records-requires : tie.Need-no-records-requires
+no-records-requires c κs = search needs
 
 returns : tie.Need-returns
 returns c = examined-head idRules _ _ _ _ _ (c .before .before .head .ensures) (c .before .if1 .taken)
@@ -31,7 +31,7 @@ unfolding count
 returns-2 c = examined-table idRules _ _ _ _ _ _ _ _ (c .before .before .before .before .before .head .ensures) (omega arith) (c .before .before .before .word8-at .ensures) (c .before .before .read-table .ensures) (c .if2 .taken)
 
 judge-requires : tie.Need-judge-requires
-judge-requires c κs = (rows-all _ _ _ _ _ (c .before .before .before .before .read-table .ensures) (c .before .before .if2 .left), c .before .before .before .before .before .before .before .before .before .before .before .pre)
+judge-requires c κs = (ids-in _ _ _ (rows-all _ _ _ _ _ (c .before .before .before .before .read-table .ensures) (c .before .before .if2 .left)), c .before .before .before .before .before .before .before .before .before .before .before .pre)
 
 same-length : tie.Need-same-length
 same-length c = search needs
@@ -53,12 +53,12 @@ returns-4 : tie.Need-returns-4
 unfolding count
 returns-4 c = examined-all idRules _ _ _ _ _ _ _ _ (c .before .before .before .before .before .before .before .before .before .before .before .before .before .head .ensures) (omega arith) (c .before .before .before .before .before .before .before .before .before .before .before .word8-at .ensures) (c .before .before .before .before .before .before .before .before .before .before .read-table .ensures) (c .before .before .before .before .before .before .before .before .if2 .left) _ _ (c .before .before .before .before .before .judge .ensures) (omega arith)
 
-pub examine-spec : {M : Type 1} → statement M
-examine-spec =
+pub examine-in-spec : {M : Type 1} → statement M
+examine-in-spec =
     tie.close
     (tie.spec
     head-requires
-    no-rows-requires
+    no-records-requires
     returns
     word8-at-requires
     read-table-requires

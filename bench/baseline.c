@@ -1,0 +1,427 @@
+/* The rules for bundles, in plain C. One pass over each ID; an ID that is canonical already is used where it stands; equal IDs and equal
+ * targets are found through hash tables, so that the work grows with the number of entries and not with its square. */
+#include "baseline.h"
+
+#include <string.h>
+
+enum { OK, LENGTH, MAGIC, COUNT, TABLE, ID, RANGE, TWICE, MIXED, QUERY, NONE, BIG, ROOM };
+enum { ENTRIES = 64, ID_LIMIT = 256, FEATURES = 8, SLOTS = 128 };
+static const uint64_t limit = 1073741824;
+static const uint8_t magic[24] = "__CLANG_OFFLOAD_BUNDLE__";
+
+/* An entry ID in canonical form: the target (six fields) and after it the features. */
+struct id {
+    const uint8_t *text;
+    uint32_t length;
+    uint32_t target;
+    uint64_t hash;
+    uint64_t target_hash;
+};
+
+struct entry {
+    uint64_t offset;
+    uint64_t size;
+    const uint8_t *id;
+    uint32_t id_length;
+};
+
+struct bundle {
+    uint64_t count;
+    struct entry entries[ENTRIES];
+    struct id ids[ENTRIES];
+    uint8_t scratch[ENTRIES][ID_LIMIT]; /* canonical forms that stand nowhere else */
+};
+
+struct refusal {
+    uint64_t number, place;
+};
+
+static uint64_t word(const uint8_t *at) {
+    uint64_t value;
+    memcpy(&value, at, 8); /* x86-64 is little-endian */
+    return value;
+}
+
+/* Classes of bytes. */
+enum { FIELD = 1, NAME = 2 };
+static const uint8_t classes[256] = {
+    ['a' ... 'z'] = FIELD | NAME, ['0' ... '9'] = FIELD | NAME, ['_'] = FIELD | NAME, ['A' ... 'Z'] = FIELD, ['.'] = FIELD,
+};
+
+/* Where an ID's parts lie: dashes[k] ends field k, `target` ends the last one. */
+struct parts {
+    uint32_t fields;
+    uint32_t dashes[6];
+    uint32_t target;
+    uint32_t features;
+    struct feature {
+        uint32_t start, length; /* name and sign */
+    } feature[FEATURES];
+    int sorted;
+};
+
+static int is_kind(const uint8_t *kind, uint32_t length) {
+    switch (length) {
+    case 3:
+        return memcmp(kind, "hip", 3) == 0;
+    case 4:
+        return memcmp(kind, "host", 4) == 0;
+    case 5:
+        return memcmp(kind, "hipv4", 5) == 0;
+    case 6:
+        return memcmp(kind, "openmp", 6) == 0;
+    }
+    return 0;
+}
+
+/* The fields: 4 to 6, the first a kind and the next three not empty. */
+static int read_target(const uint8_t *id, uint32_t length, struct parts *parts) {
+    uint32_t at = 0, fields = 0;
+    for (; at < length; at++) {
+        if (classes[id[at]] & FIELD)
+            continue;
+        if (id[at] == ':')
+            break;
+        if (id[at] != '-' || fields == 5)
+            return 0;
+        parts->dashes[fields++] = at;
+    }
+    parts->target = at;
+    parts->dashes[fields++] = at;
+    parts->fields = fields;
+    if (fields < 4 || !is_kind(id, parts->dashes[0]))
+        return 0;
+    return parts->dashes[1] > parts->dashes[0] + 1 && parts->dashes[2] > parts->dashes[1] + 1 && parts->dashes[3] > parts->dashes[2] + 1;
+}
+
+/* Below 0, 0 or above 0: the byte order of two features' names. */
+static int compare_names(const uint8_t *id, struct feature a, struct feature b) {
+    uint32_t a_length = a.length - 1, b_length = b.length - 1;
+    int order = memcmp(id + a.start, id + b.start, a_length < b_length ? a_length : b_length);
+    return order != 0 ? order : (int)a_length - (int)b_length;
+}
+
+/* Puts a feature where it belongs. 0 if its name is there already. */
+static int insert_feature(const uint8_t *id, struct parts *parts, struct feature feature) {
+    uint32_t k = parts->features++;
+    for (; k > 0; k--) {
+        int order = compare_names(id, parts->feature[k - 1], feature);
+        if (order == 0)
+            return 0;
+        if (order < 0)
+            break;
+        parts->feature[k] = parts->feature[k - 1];
+        parts->sorted = 0;
+    }
+    parts->feature[k] = feature;
+    return 1;
+}
+
+/* The features after the target: each a colon, a name and a sign. */
+static int read_features(const uint8_t *id, uint32_t length, struct parts *parts) {
+    uint32_t at = parts->target;
+    parts->features = 0;
+    parts->sorted = 1;
+    while (at < length) {
+        uint32_t start = at + 1;
+        for (at = start; at < length && classes[id[at]] & NAME; at++)
+            ;
+        if (at == start || at == length || (id[at] != '+' && id[at] != '-') || parts->features == FEATURES)
+            return 0;
+        at++;
+        if (at < length && id[at] != ':')
+            return 0;
+        if (!insert_feature(id, parts, (struct feature){start, at - start}))
+            return 0;
+    }
+    return 1;
+}
+
+/* Whether the fifth of five fields is a processor. */
+static int is_processor(const uint8_t *field, uint32_t length) {
+    return length >= 3 && (memcmp(field, "gfx", 3) == 0 || memcmp(field, "sm_", 3) == 0);
+}
+
+/* Where the canonical form differs from the text: `at`, where a dash or two are put in. Whether there is a processor. */
+static int place_dashes(const uint8_t *id, const struct parts *parts, uint32_t *at, uint32_t *dashes) {
+    uint32_t fifth = parts->dashes[3] + 1;
+    *dashes = 6 - parts->fields;
+    *at = parts->target;
+    if (parts->fields == 6)
+        return parts->target > parts->dashes[4] + 1;
+    if (parts->fields == 4 || !is_processor(id + fifth, parts->target - fifth))
+        return 0;
+    *at = fifth;
+    return 1;
+}
+
+static uint64_t mix(uint64_t hash, uint64_t word) {
+    hash = (hash ^ word) * 0x9E3779B97F4A7C15;
+    return hash ^ hash >> 32;
+}
+
+/* Hashes the bytes from `at` on. The last word may hold earlier bytes too: a canonical form has more than 8. */
+static uint64_t hash_from(uint64_t hash, const uint8_t *text, uint32_t at, uint32_t length) {
+    for (; at + 8 < length; at += 8)
+        hash = mix(hash, word(text + at));
+    return mix(hash, word(text + length - 8));
+}
+
+/* Writes the target with its dashes, and the features in order. */
+static void write_canonical(const uint8_t *id, const struct parts *parts, uint32_t at, uint32_t dashes, uint8_t *out) {
+    uint32_t k;
+    memcpy(out, id, at);
+    memset(out + at, '-', dashes);
+    memcpy(out + at + dashes, id + at, parts->target - at);
+    out += parts->target + dashes;
+    for (k = 0; k < parts->features; k++) {
+        *out++ = ':';
+        memcpy(out, id + parts->feature[k].start, parts->feature[k].length);
+        out += parts->feature[k].length;
+    }
+}
+
+/* Reads an ID, with room for its canonical form. 0 if it breaks the rules. */
+static int read_id(const uint8_t *id, uint32_t length, uint8_t *scratch, struct id *read) {
+    struct parts parts;
+    uint32_t at, dashes;
+    int processor;
+    if (!read_target(id, length, &parts) || !read_features(id, length, &parts))
+        return 0;
+    processor = place_dashes(id, &parts, &at, &dashes);
+    if ((parts.features > 0 && !processor) || length + dashes > ID_LIMIT)
+        return 0;
+    read->text = id;
+    if (dashes > 0 || !parts.sorted) {
+        write_canonical(id, &parts, at, dashes, scratch);
+        read->text = scratch;
+    }
+    read->length = length + dashes;
+    read->target = parts.target + dashes;
+    read->target_hash = hash_from(0, read->text, 0, read->target);
+    read->hash = hash_from(read->target_hash, read->text, read->target, read->length);
+    return 1;
+}
+
+/* 1 to 3. */
+static uint64_t read_head(const uint8_t *bytes, size_t length) {
+    if (length > limit)
+        return LENGTH;
+    if (length < 24 || memcmp(bytes, magic, 24) != 0)
+        return MAGIC;
+    return length < 32 || word(bytes + 24) > ENTRIES ? COUNT : OK;
+}
+
+/* 4, and the table's end. */
+static struct refusal read_table(const uint8_t *bytes, size_t length, struct bundle *bundle, size_t *end) {
+    size_t at = 32;
+    uint64_t k;
+    bundle->count = word(bytes + 24);
+    for (k = 0; k < bundle->count; k++) {
+        struct entry *entry = &bundle->entries[k];
+        uint64_t id_length;
+        if (length - at < 24)
+            return (struct refusal){TABLE, k};
+        id_length = word(bytes + at + 16);
+        if (id_length == 0 || id_length > ID_LIMIT || id_length > length - at - 24)
+            return (struct refusal){TABLE, k};
+        *entry = (struct entry){word(bytes + at), word(bytes + at + 8), bytes + at + 24, (uint32_t)id_length};
+        at += 24 + id_length;
+    }
+    *end = at;
+    return (struct refusal){OK, 0};
+}
+
+/* 5 and 6. */
+static struct refusal read_entries(struct bundle *bundle, size_t end, size_t length) {
+    uint64_t k;
+    for (k = 0; k < bundle->count; k++)
+        if (!read_id(bundle->entries[k].id, bundle->entries[k].id_length, bundle->scratch[k], &bundle->ids[k]))
+            return (struct refusal){ID, k};
+    for (k = 0; k < bundle->count; k++) {
+        const struct entry *entry = &bundle->entries[k];
+        if (entry->offset < end || entry->offset > length || entry->size > length - entry->offset)
+            return (struct refusal){RANGE, k};
+    }
+    return (struct refusal){OK, 0};
+}
+
+static int same_target(const struct id *a, const struct id *b) {
+    return a->target_hash == b->target_hash && a->target == b->target && memcmp(a->text, b->text, a->target) == 0;
+}
+
+static int same_meaning(const struct id *a, const struct id *b) {
+    return a->hash == b->hash && a->length == b->length && memcmp(a->text, b->text, a->length) == 0;
+}
+
+static int is_sign(uint8_t byte) {
+    return byte == '+' || byte == '-';
+}
+
+/* Of IDs with the same target: equal but for signs. */
+static int same_names(const struct id *a, const struct id *b) {
+    uint32_t k;
+    if (a->length != b->length)
+        return 0;
+    for (k = a->target; k < a->length; k++)
+        if (a->text[k] != b->text[k] && !(is_sign(a->text[k]) && is_sign(b->text[k])))
+            return 0;
+    return 1;
+}
+
+/* A hash table of entry indices: 0 is free, k + 1 is entry k. */
+typedef uint8_t table[SLOTS];
+
+/* The index of an entry with the same meaning, or with the same target; else k, which is put in. */
+static uint64_t find_or_put(table table, const struct id *ids, uint64_t k, uint64_t hash, int (*same)(const struct id *, const struct id *)) {
+    uint64_t slot = hash % SLOTS;
+    for (; table[slot] != 0; slot = (slot + 1) % SLOTS)
+        if (same(&ids[table[slot] - 1], &ids[k]))
+            return table[slot] - 1;
+    table[slot] = (uint8_t)(k + 1);
+    return k;
+}
+
+/* 7 and 8. Entries of one target are compared with the first of them: before the lowest mixed one all state the same names. */
+static struct refusal compare_entries(const struct bundle *bundle) {
+    table meanings = {0}, targets = {0};
+    struct refusal refusal = {OK, 0};
+    uint64_t k;
+    for (k = 0; k < bundle->count; k++) {
+        const struct id *id = &bundle->ids[k];
+        uint64_t first;
+        if (find_or_put(meanings, bundle->ids, k, id->hash, same_meaning) != k)
+            return (struct refusal){TWICE, k};
+        first = find_or_put(targets, bundle->ids, k, id->target_hash, same_target);
+        if (refusal.number == OK && !same_names(&bundle->ids[first], id))
+            refusal = (struct refusal){MIXED, k};
+    }
+    return refusal;
+}
+
+static struct refusal read_bundle(const uint8_t *bytes, size_t length, struct bundle *bundle) {
+    struct refusal refusal = {read_head(bytes, length), 0};
+    size_t end;
+    if (refusal.number == OK)
+        refusal = read_table(bytes, length, bundle, &end);
+    if (refusal.number == OK)
+        refusal = read_entries(bundle, end, length);
+    if (refusal.number == OK)
+        refusal = compare_entries(bundle);
+    return refusal;
+}
+
+struct checked baseline_check(const uint8_t *bytes, size_t length) {
+    struct bundle bundle;
+    struct refusal refusal = read_bundle(bytes, length, &bundle);
+    return (struct checked){refusal.number, refusal.place, refusal.number == OK ? bundle.count : 0};
+}
+
+/* The length of the feature at `at`: its colon, name and sign. */
+static uint32_t feature_length(const struct id *id, uint32_t at) {
+    uint32_t end = at + 1;
+    while (!is_sign(id->text[end]))
+        end++;
+    return end + 1 - at;
+}
+
+/* Every feature of the entry is one of the device's. Both are in byte order. */
+static int compatible(const struct id *entry, const struct id *device) {
+    uint32_t at = entry->target, from = device->target;
+    if (!same_target(entry, device))
+        return 0;
+    while (at < entry->length && from < device->length) {
+        uint32_t length = feature_length(entry, at), other = feature_length(device, from);
+        if (length == other && memcmp(entry->text + at, device->text + from, length) == 0)
+            at += length;
+        from += other;
+    }
+    return at == entry->length;
+}
+
+struct picked baseline_pick(const uint8_t *bytes, size_t length, const uint8_t *name, size_t name_length) {
+    struct bundle bundle;
+    struct refusal refusal = read_bundle(bytes, length, &bundle);
+    uint8_t scratch[ID_LIMIT];
+    struct id device;
+    uint64_t k;
+    if (refusal.number != OK)
+        return (struct picked){refusal.number, refusal.place, 0, 0, 0};
+    if (name_length == 0 || name_length > ID_LIMIT || !read_id(name, (uint32_t)name_length, scratch, &device))
+        return (struct picked){QUERY, 0, 0, 0, 0};
+    for (k = 0; k < bundle.count; k++)
+        if (compatible(&bundle.ids[k], &device))
+            return (struct picked){OK, 0, k, bundle.entries[k].offset, bundle.entries[k].size};
+    return (struct picked){NONE, 0, 0, 0, 0};
+}
+
+static int before(const struct id *a, const struct id *b) {
+    int order = memcmp(a->text, b->text, a->length < b->length ? a->length : b->length);
+    return order != 0 ? order < 0 : a->length < b->length;
+}
+
+/* The entries in byte order of their IDs, by binary insertion. */
+static void sort(const struct bundle *bundle, uint8_t order[ENTRIES]) {
+    uint64_t k;
+    for (k = 0; k < bundle->count; k++) {
+        uint64_t low = 0, high = k;
+        while (low < high) {
+            uint64_t middle = (low + high) / 2;
+            if (before(&bundle->ids[order[middle]], &bundle->ids[k]))
+                low = middle + 1;
+            else
+                high = middle;
+        }
+        memmove(order + low + 1, order + low, k - low);
+        order[low] = (uint8_t)k;
+    }
+}
+
+/* The length of the normal form, with the length of its table. */
+static uint64_t normal_length(const struct bundle *bundle, uint64_t *table) {
+    uint64_t images = 0, k;
+    *table = 32;
+    for (k = 0; k < bundle->count; k++) {
+        *table += 24 + bundle->ids[k].length;
+        images += bundle->entries[k].size;
+    }
+    return *table + images;
+}
+
+static void put(uint8_t *at, uint64_t value) {
+    memcpy(at, &value, 8);
+}
+
+static void write_normal(const uint8_t *bytes, const struct bundle *bundle, uint64_t image, uint8_t *out) {
+    uint8_t order[ENTRIES], *row = out + 32;
+    uint64_t k;
+    sort(bundle, order);
+    memcpy(out, magic, 24);
+    put(out + 24, bundle->count);
+    for (k = 0; k < bundle->count; k++) {
+        const struct entry *entry = &bundle->entries[order[k]];
+        const struct id *id = &bundle->ids[order[k]];
+        put(row, image);
+        put(row + 8, entry->size);
+        put(row + 16, id->length);
+        memcpy(row + 24, id->text, id->length);
+        memcpy(out + image, bytes + entry->offset, entry->size);
+        row += 24 + id->length;
+        image += entry->size;
+    }
+}
+
+struct written baseline_normalise(const uint8_t *bytes, size_t length, uint8_t *out, size_t room) {
+    struct bundle bundle;
+    struct refusal refusal = read_bundle(bytes, length, &bundle);
+    uint64_t table, normal;
+    if (refusal.number != OK)
+        return (struct written){refusal.number, refusal.place, 0};
+    normal = normal_length(&bundle, &table);
+    if (normal > limit)
+        return (struct written){BIG, 0, 0};
+    if (normal > room)
+        return (struct written){ROOM, 0, 0};
+    write_normal(bytes, &bundle, table, out);
+    return (struct written){OK, 0, normal};
+}

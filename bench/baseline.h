@@ -1,0 +1,42 @@
+/* The rules of document 01 in plain C, written to be fast: what the library's speed is held against. Not proved. */
+#ifndef BASELINE_H
+#define BASELINE_H
+
+#include <stddef.h>
+#include <stdint.h>
+
+struct checked {
+    uint64_t number, place, count;
+};
+
+struct picked {
+    uint64_t number, place, index, position, size;
+};
+
+struct written {
+    uint64_t number, place, length;
+};
+
+struct checked baseline_check(const uint8_t *bundle, size_t length);
+struct picked baseline_pick(const uint8_t *bundle, size_t length, const uint8_t *device, size_t device_length);
+struct written baseline_normalise(const uint8_t *bundle, size_t length, uint8_t *out, size_t room);
+
+enum { PAIRS = 32 };
+
+struct pair {
+    uint64_t key_place, key_length, text_place, text_length;
+};
+
+/* Where `number` is not 0, only `place` counts beside it. */
+struct binary {
+    uint64_t number, place, first, size, image_kind, offload_kind, flags, image_place, image_length, count;
+    struct pair pairs[PAIRS];
+};
+
+struct cursor {
+    uint64_t at, taken;
+};
+
+void baseline_next(const uint8_t *bytes, size_t length, struct cursor *cursor, struct binary *read);
+
+#endif

@@ -1,0 +1,86 @@
+//! The baseline's calls, and the proof by cases that it gives the same answers: the second program's comparison, with the baseline in the
+//! library's place.
+
+use crate::baseline_binaries;
+use second::calls::{BundleCalls, NormaliseCalls};
+use second::families::binaries::Binaries;
+use second::families::bundles::Bundles;
+use second::families::Family;
+use second::gen::random::Random;
+use second::model::bundle::{Checked, Picked};
+use second::model::Written;
+
+#[repr(C)]
+struct CChecked {
+    number: u64,
+    place: u64,
+    count: u64,
+}
+
+#[repr(C)]
+struct CPicked {
+    number: u64,
+    place: u64,
+    index: u64,
+    position: u64,
+    size: u64,
+}
+
+#[repr(C)]
+struct CWritten {
+    number: u64,
+    place: u64,
+    length: u64,
+}
+
+extern "C" {
+    fn baseline_check(bundle: *const u8, length: usize) -> CChecked;
+    fn baseline_pick(bundle: *const u8, length: usize, device: *const u8, device_length: usize) -> CPicked;
+    fn baseline_normalise(bundle: *const u8, length: usize, out: *mut u8, room: usize) -> CWritten;
+}
+
+pub fn check(bundle: &[u8]) -> Checked {
+    // SAFETY: the slice is as long as it says.
+    let CChecked { number, place, count } = unsafe { baseline_check(bundle.as_ptr(), bundle.len()) };
+    Checked { number, place, count }
+}
+
+pub fn pick(bundle: &[u8], device: &[u8]) -> Picked {
+    // SAFETY: the slices are as long as they say.
+    let picked = unsafe { baseline_pick(bundle.as_ptr(), bundle.len(), device.as_ptr(), device.len()) };
+    let CPicked { number, place, index, position, size } = picked;
+    Picked { number, place, index, position, size }
+}
+
+pub fn normalise(bundle: &[u8], out: &mut [u8]) -> Written {
+    // SAFETY: the slices are as long as they say, and the output shares no byte with the bundle.
+    let written = unsafe { baseline_normalise(bundle.as_ptr(), bundle.len(), out.as_mut_ptr(), out.len()) };
+    let CWritten { number, place, length } = written;
+    Written { number, place, length }
+}
+
+const CALLS: BundleCalls = BundleCalls {
+    check,
+    pick,
+    normalise: Some(NormaliseCalls {
+        number: |bundle, out| normalise(bundle, out).number,
+        place: |bundle, out| normalise(bundle, out).place,
+        length: |bundle, out| normalise(bundle, out).length,
+    }),
+};
+
+/// Compares the baseline with the second program on the samples and on generated containers; ends the program where it differs.
+pub fn compare(cases: u64) {
+    compare_family(Box::new(Bundles::new(CALLS)), cases);
+    compare_family(Box::new(Binaries::new(baseline_binaries::next)), cases);
+}
+
+fn compare_family(mut family: Box<dyn Family>, cases: u64) {
+    let name = family.name();
+    let fixed = family.run_fixed().unwrap_or_else(|difference| panic!("{name}: the plain C differs: {difference:?}"));
+    for case in 0..cases {
+        let result = family.run(&mut Random::of_case(1, case));
+        result.unwrap_or_else(|difference| panic!("{name}: the plain C differs in case {case}: {difference:?}"));
+    }
+    println!("{name}: the plain C answers as the second program does, in {cases} generated cases and {fixed} examples and real files.\n");
+}

@@ -1,0 +1,45 @@
+//! Times the library: `bench TOOL FOLDER`, with the tool to run and a folder for files. Prints tables for docs/BENCHMARKS.md.
+
+mod baseline;
+mod baseline_binaries;
+mod binaries;
+mod bundles;
+mod clock;
+mod library;
+mod llvm;
+mod sample;
+mod table;
+
+use std::path::Path;
+use std::process::{exit, Command};
+
+fn main() {
+    let words: Vec<String> = std::env::args().collect();
+    let [_, tool, work] = words.as_slice() else {
+        eprintln!("bench TOOL FOLDER");
+        exit(2)
+    };
+    std::fs::create_dir_all(work).expect("a folder for files");
+    println!("{}\n", machine());
+    baseline::compare(5000);
+    bundles::jobs();
+    bundles::growth();
+    binaries::reading();
+    llvm::jobs(tool, Path::new(work));
+}
+
+/// The day, the processor, the compiler and how busy the machine is.
+fn machine() -> String {
+    let read = |path: &str| std::fs::read_to_string(path).unwrap_or_default();
+    let processors = read("/proc/cpuinfo");
+    let model = processors.lines().find_map(|line| line.strip_prefix("model name\t: ")).unwrap_or("unknown processor");
+    let count = processors.lines().filter(|line| line.starts_with("processor")).count();
+    let load = read("/proc/loadavg").split(' ').next().unwrap_or("").to_string();
+    let (day, gcc) = (first_line("date", "+%F"), first_line("gcc", "--version"));
+    format!("{day}, {model}, {count} processors, load {load} at the start, {gcc}.")
+}
+
+fn first_line(program: &str, word: &str) -> String {
+    let output = Command::new(program).arg(word).output().map(|output| output.stdout).unwrap_or_default();
+    String::from_utf8_lossy(&output).lines().next().unwrap_or_default().to_string()
+}

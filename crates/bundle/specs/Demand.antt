@@ -1,0 +1,87 @@
+-- Demand 3: normal forms are the same bytes exactly where bundles hold the same entries, and they are kept by the check, the pick and a second
+-- normalising. Statements only; `proofs/Demand` proves `Demand3` of every two accepted bundles whose normal forms are within the limit.
+use Prim.Native.Nat.{ℕ, _<_, _≤_}
+use mathlib.Core.Path.{_≡_}
+use mathlib.Core.Logic.{_↔_}
+use mathlib.Core.List.{List, map, List·Memᴰ}
+use lib.ListN.{length, take, drop}
+use Rattle.entry_id.specs.IdRules.{IdRules}
+use Rattle.entry_id.specs.Meaning.{Feature, piecesOf, feature, meaning}
+use Rattle.entry_id.specs.Rules.{idRules}
+use Rattle.bundle.specs.Table.{count, row}
+use Rattle.bundle.specs.Check.{limit, check}
+use Rattle.bundle.specs.Entry.{imageOf}
+use Rattle.bundle.specs.Pick.{pick}
+use Rattle.bundle.specs.Normal.{over, normal, normalise, normalised}
+
+-- ---- the same entries
+
+-- the feature stands among those that the ID states, with its sign
+unfoldable pub States : List ℕ → Feature → Type 0
+States x f = List·Memᴰ f (map feature (piecesOf x))
+
+-- of two IDs: "the same kind as spelled, triple, processor, stated features and signs"
+pub record SameId (x y : List ℕ) : Type 0 where
+  pub kind : meaning x .kind ≡ meaning y .kind
+  pub arch : meaning x .arch ≡ meaning y .arch
+  pub vendor : meaning x .vendor ≡ meaning y .vendor
+  pub system : meaning x .system ≡ meaning y .system
+  pub environment : meaning x .environment ≡ meaning y .environment
+  pub processor : meaning x .processor ≡ meaning y .processor
+  pub features : (f : Feature) → States x f ↔ States y f
+
+-- of entry i of a and entry j of b: that, "and an image of the same size and bytes"
+pub record SameEntry (a : List ℕ) (i : ℕ) (b : List ℕ) (j : ℕ) : Type 0 where
+  pub id : SameId (row a i .id) (row b j .id)
+  pub size : row a i .size ≡ row b j .size
+  pub image : imageOf a (row a i) ≡ imageOf b (row b j)
+
+-- "Two bundles hold the same entries when each entry of either has one in the other with .."
+pub record SameEntries (a b : List ℕ) : Type 0 where
+  pub left : (i : ℕ) → i < count a → (j : ℕ) × (j < count b) × SameEntry a i b j
+  pub right : (j : ℕ) → j < count b → (i : ℕ) × (i < count a) × SameEntry a i b j
+
+-- ---- what a normal form keeps, for every `IdRules`
+
+module _ (R : IdRules) where
+  -- the bytes of the image that a pick names; none where it is refused
+  unfoldable pub pickedImage : List ℕ → List ℕ → List ℕ
+  pickedImage s device = let p = pick R s device in take (p .size) (drop (p .position) s)
+
+  -- a pick from s and from t: the same image bytes, or the same number and place
+  pub record SamePick (s t device : List ℕ) : Type 0 where
+    pub number : pick R s device .number ≡ pick R t device .number
+    pub place : pick R s device .place ≡ pick R t device .place
+    pub image : pickedImage s device ≡ pickedImage t device
+
+  -- normalising s writes t: "with room enough, normalising writes them and returns OK and that length"; "Room is enough at that length or more."
+  pub record Writes (s t out : List ℕ) : Type 0 where
+    pub returned : normalise R s (length out) ≡ record { number = 0; place = 0; length = length t }
+    pub bytes : normalised R s out ≡ over t out
+
+  -- of an accepted bundle s
+  pub record Kept (s device : List ℕ) : Type 0 where
+    -- the normal form is written
+    pub written : (out : List ℕ) → length (normal R s) ≤ length out → Writes s (normal R s) out
+    -- it is accepted, with as many entries, which is what the check says of s
+    pub accepted : check R (normal R s) ≡ record { number = 0; place = 0; count = count s }
+    pub checked : check R (normal R s) ≡ check R s
+    -- normalising it again writes the same bytes
+    pub again : (out : List ℕ) → length (normal R s) ≤ length out → Writes (normal R s) (normal R s) out
+    -- a pick from it gives what a pick from s gives
+    pub picked : SamePick s (normal R s) device
+
+-- ---- the demand, of the project's own rules of entry IDs
+
+pub record Demand3 (a b device : List ℕ) : Type 0 where
+  pub same-bytes : (normal idRules a ≡ normal idRules b) ↔ SameEntries a b
+  pub left : Kept idRules a device
+  pub right : Kept idRules b device
+
+-- for any two accepted bundles "within the size limit", and any bytes as a device name
+abbrev pub EveryDemand3 : Type 0
+EveryDemand3 =
+    (a b device : List ℕ)
+    → check idRules a .number ≡ 0 → check idRules b .number ≡ 0
+    → length (normal idRules a) ≤ limit → length (normal idRules b) ≤ limit
+    → Demand3 a b device

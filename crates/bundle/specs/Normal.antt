@@ -1,0 +1,56 @@
+-- The normal form of a bundle, and what normalising gives back. Definitions only.
+use Prim.Native.Nat.{ℕ, zero, suc}
+use mathlib.Core.List.{List, _++_}
+use lib.Dec.{ltb}
+use lib.ListN.{length, drop}
+use Rattle.wire.specs.Order.{sortBy}
+use Rattle.wire.specs.Stop.{Stop, _⨾_, stopIf}
+use Rattle.entry_id.specs.IdRules.{IdRules}
+use Rattle.bundle.specs.Check.{limit, unrefused, bundleStop}
+use Rattle.bundle.specs.Entry.{Entry, entries}
+use Rattle.bundle.specs.Layout.{packedLength, encode}
+use Rattle.bundle.specs.declared.Written.{Written}
+
+-- ---- a call that writes
+
+-- 11 BIG "the output would be above the size limit"; 12 ROOM "the lent output is shorter than the output"
+unfoldable pub roomStop : ℕ → ℕ → Stop
+roomStop len room = stopIf 11 (ltb limit len) ⨾ stopIf 12 (ltb room len)
+
+-- what is returned: "An accepted call has place 0; .. a call that writes the length written"
+unfoldable pub answer : Stop → ℕ → Written
+answer t len = record { number = t .number; place = t .place; length = unrefused t len }
+
+-- bytes at the start of a lent output: "Bytes of the lent output beyond that length stay as they were."
+unfoldable pub over : List ℕ → List ℕ → List ℕ
+over bytes out = bytes ++ drop (length bytes) out
+
+-- the lent output after the call: "A refusal .. writes no output"
+unfoldable pub output : Stop → List ℕ → List ℕ → List ℕ
+output t bytes out = elim (t .number) [ zero ↦ over bytes out | suc k ↦ out ]
+
+-- ---- normalising
+
+-- "entries sorted by canonical ID"
+abbrev pub byId : Entry → List ℕ
+byId e = e .id
+
+module _ (R : IdRules) where
+  -- "Normal form: entries sorted by canonical ID in byte order (a prefix first), each ID canonical, images packed directly after the table in entry order."
+  unfoldable pub normal : List ℕ → List ℕ
+  normal s = encode (sortBy byId (entries R s))
+
+  unfoldable pub normalLength : List ℕ → ℕ
+  normalLength s = packedLength (entries R s)
+
+  -- "Normalising checks 1 to 8, 11, 12."
+  unfoldable pub normaliseStop : List ℕ → ℕ → Stop
+  normaliseStop s room = bundleStop R s ⨾ roomStop (normalLength s) room
+
+  -- number, place and length, of a bundle s and an output of `room` bytes
+  unfoldable pub normalise : List ℕ → ℕ → Written
+  normalise s room = answer (normaliseStop s room) (normalLength s)
+
+  -- the lent output afterwards
+  unfoldable pub normalised : List ℕ → List ℕ → List ℕ
+  normalised s out = output (normaliseStop s (length out)) (normal s) out

@@ -1,0 +1,82 @@
+-- Document 01's examples that are marked to be proved ("Bench pieces", marked *): one table under one claim. Statements only.
+use Prim.Native.Nat.{ℕ}
+use mathlib.Core.Path.{_≡_}
+use mathlib.Core.Bool.{Bool, true, false}
+use mathlib.Core.List.{List, [], _∷_, _++_}
+use lib.ListN.{length, replicate}
+use Rattle.wire.specs.Bytes.{bytes}
+use Rattle.wire.specs.Word.{bytesOf}
+use Rattle.entry_id.specs.Meaning.{meaning, canon}
+use Rattle.entry_id.specs.Compare.{compatible}
+use Rattle.entry_id.specs.Rules.{idRules}
+use Rattle.bundle.specs.Table.{Row, magic, tableEnd}
+use Rattle.bundle.specs.Check.{check}
+use Rattle.bundle.specs.Layout.{bundle}
+use Rattle.bundle.specs.Normal.{normal, normalLength}
+use Rattle.offload_binary.specs.Binary.{refused, binaryAt}
+use Rattle.offload_binary.specs.Contents.{Contents, written}
+use Rattle.offload_binaries.specs.Reader.{answer}
+
+-- ---- the bytes that the examples speak of
+
+abbrev pub host : List ℕ
+host = bytes "host-x86_64-unknown-linux-gnu-"
+
+abbrev pub gfx906 : List ℕ
+gfx906 = bytes "hip-amdgcn-amd-amdhsa-gfx906"
+
+-- "Magic and eight zero bytes"
+abbrev pub noEntries : List ℕ
+noEntries = magic ++ replicate 8 0
+
+-- a bundle with one entry `host`, its image of this size at 86, and these bytes after the table
+abbrev pub oneHost : ℕ → List ℕ → List ℕ
+oneHost size body = bundle (record { offset = 86; size = size; id = host } ∷ []) body
+
+-- two entries with empty images at the end of the container, which is the end of the table
+abbrev pub twoAt : ℕ → List ℕ → List ℕ → List ℕ
+twoAt end x y = bundle (record { offset = end; size = 0; id = x } ∷ record { offset = end; size = 0; id = y } ∷ []) []
+
+abbrev pub bare : Contents
+bare = record { imageKind = 0; offloadKind = 0; flags = 0; image = []; strings = [] }
+
+abbrev pub withArch : Contents
+withArch = record { imageKind = 0; offloadKind = 0; flags = 0; image = 1 ∷ 2 ∷ 3 ∷ []; strings = record { key = bytes "arch"; text = bytes "sm_70" } ∷ [] }
+
+-- ---- the table
+
+pub record Examples : Type 0 where
+  -- "Empty input: MAGIC as a bundle, END as a strip."
+  pub empty-bundle : check idRules [] ≡ record { number = 2; place = 0; count = 0 }
+  pub empty-binaries : answer [] 0 ≡ refused 19 0
+  -- "Magic and eight zero bytes: accepted, no entries, its own normal form, 32 bytes."
+  pub none-accepted : check idRules noEntries ≡ record { number = 0; place = 0; count = 0 }
+  pub none-normal : normal idRules noEntries ≡ noEntries
+  pub none-length : length noEntries ≡ 32
+  -- "`host-x86_64-unknown-linux-gnu` has canonical form `host-x86_64-unknown-linux-gnu-`, 30 bytes."
+  pub host-form : canon (bytes "host-x86_64-unknown-linux-gnu") ≡ host
+  pub host-length : length host ≡ 30
+  -- "A bundle of that form with a 5-byte image has table end 86 and normal length 91: magic; count 1; 86; 5; 30; the ID; the five bytes."
+  pub one-end : tableEnd (oneHost 5 (bytes "image")) ≡ 86
+  pub one-length : normalLength idRules (oneHost 5 (bytes "image")) ≡ 91
+  pub one-normal : normal idRules (oneHost 5 (bytes "image")) ≡ magic ++ bytesOf 8 1 ++ bytesOf 8 86 ++ bytesOf 8 5 ++ bytesOf 8 30 ++ host ++ bytes "image"
+  -- "`hip-amdgcn-amd-amdhsa-gfx906:xnack+:sramecc-` becomes `hip-amdgcn-amd-amdhsa--gfx906:sramecc-:xnack+`, 45 bytes."
+  pub hip-form : canon (bytes "hip-amdgcn-amd-amdhsa-gfx906:xnack+:sramecc-") ≡ bytes "hip-amdgcn-amd-amdhsa--gfx906:sramecc-:xnack+"
+  pub hip-length : length (bytes "hip-amdgcn-amd-amdhsa--gfx906:sramecc-:xnack+") ≡ 45
+  -- "Entry `gfx906`, device `gfx906:sramecc+:xnack-` (same kind and triple): compatible."
+  pub any-sign : compatible (meaning gfx906) (meaning (gfx906 ++ bytes ":sramecc+:xnack-")) ≡ true
+  -- "Entry `gfx906:xnack-`, device `gfx906`: not compatible."
+  pub unstated : compatible (meaning (gfx906 ++ bytes ":xnack-")) (meaning gfx906) ≡ false
+  -- "Entries `gfx906` and `gfx906:xnack+` together: MIXED at the second."
+  pub other-names : check idRules (twoAt 143 gfx906 (gfx906 ++ bytes ":xnack+")) ≡ record { number = 8; place = 1; count = 0 }
+  -- "The two `gfx906` spellings of the fourth piece together: TWICE."
+  pub two-spellings : check idRules (twoAt 169 (bytes "hip-amdgcn-amd-amdhsa-gfx906:xnack+:sramecc-") (bytes "hip-amdgcn-amd-amdhsa--gfx906:sramecc-:xnack+")) ≡ record { number = 7; place = 1; count = 0 }
+  -- "Offset equal to the length with size 0: accepted. Size 1 there: RANGE."
+  pub at-end : check idRules (oneHost 0 []) ≡ record { number = 0; place = 0; count = 1 }
+  pub past-end : check idRules (oneHost 1 []) ≡ record { number = 6; place = 0; count = 0 }
+  -- "Binary with no strings and no image: 72 bytes. With `arch`/`sm_70` and a 3-byte image: image at 104, size 112."
+  pub bare-size : binaryAt (written bare) 0 .binary .size ≡ 72
+  pub bare-length : length (written bare) ≡ 72
+  pub arch-image : binaryAt (written withArch) 0 .binary .image ≡ record { start = 104; len = 3 }
+  pub arch-size : binaryAt (written withArch) 0 .binary .size ≡ 112
+  pub arch-length : length (written withArch) ≡ 112

@@ -1,0 +1,37 @@
+-- Laws of sums over lists, and of members by index. Assumes nothing.
+use Prim.Native.Nat.{ℕ, zero, suc, _+_, _<_}
+use native.Mathlib.Omega.{arith}
+use mathlib.Core.Path.{_≡_, refl}
+use mathlib.Core.Logic.{inl, inr}
+use mathlib.Core.List.{List, [], _∷_, _++_, List·Memᴰ, List·Memᴰ·head, List·Memᴰ·tail, List·Memᴰ·not-nil, List·Memᴰ·cases-cons}
+use lib.ListN.{length, getD}
+use Rattle.wire.specs.Lists.{total}
+
+pub total-append : {A : Type 0} (f : A → ℕ) (a b : List A) → total f (a ++ b) ≡ total f a + total f b
+unfolding total
+total-append f [] b = omega arith
+total-append f (x ∷ a) b = omega (arith, total-append f a b)
+
+-- of two lists whose elements have the same numbers
+pub total-same : {A B : Type 0} (v : A → ℕ) (w : B → ℕ) (c : A) (d : B) (l : List A) (m : List B) → length l ≡ length m
+    → ((i : ℕ) → i < length l → v (getD l i c) ≡ w (getD m i d)) → total v l ≡ total w m
+unfolding total
+total-same v w c d [] [] e h = refl
+total-same v w c d [] (y ∷ m) e h = absurd (omega arith)
+total-same v w c d (x ∷ l) [] e h = absurd (omega arith)
+total-same v w c d (x ∷ l) (y ∷ m) e h =
+    omega (arith, h zero (omega arith), total-same v w c d l m (omega arith) (λ i b. h (suc i) (omega arith)))
+
+-- the index of a member
+pub member-at : {A : Type 0} (l : List A) (d x : A) → List·Memᴰ x l → (i : ℕ) × (i < length l) × (x ≡ getD l i d)
+member-at [] d x m = absurd (List·Memᴰ·not-nil m)
+member-at (y ∷ l) d x m =
+    elim (List·Memᴰ·cases-cons m) [
+      | inl e ↦ (zero, omega arith, e)
+      | inr u ↦ let r = member-at l d x u in (suc (r .0), omega (arith, r .1), r .2)
+    ]
+
+pub at-member : {A : Type 0} (l : List A) (d : A) (i : ℕ) → i < length l → List·Memᴰ (getD l i d) l
+at-member [] d i h = absurd (omega arith)
+at-member (y ∷ l) d zero h = List·Memᴰ·head refl
+at-member (y ∷ l) d (suc i) h = List·Memᴰ·tail (at-member l d i (omega arith))
