@@ -1,4 +1,4 @@
--- The bench pieces on offload binaries, by computation. Assumes nothing.
+-- The examples on offload binaries, by computation. Assumes nothing.
 use mathlib.Core.Path.{refl}
 use Rattle.wire.specs.Word.{bytesOf, word, wordOf}
 use Rattle.wire.specs.Bytes.{same, empty}
@@ -8,16 +8,12 @@ use Rattle.offload_binary.specs.Lists.{tab, slots}
 use Rattle.offload_binary.specs.Binary.{bytesAt, run, ended, sizeOf, entryAt, own, entryOf, keyAt, textAt, stringAt, pair, key, badHead, badSpan, badKinds, badTable, badString, badPair, badStrings, badImage, bodyStop, binaryStop, handsBack, binary}
 use Rattle.offload_binary.specs.Contents.{fieldBytes, texts, stringBytes, offsets, up8, zeros, stringsStart, stringsEnd, imageStart, imageEnd, binarySize, headFields, written}
 use Rattle.offload_binaries.specs.Reader.{past, nextStop, next, cursorAfter, answer, binariesOnly, accepted}
-use Rattle.offload_binaries.specs.Bench.{BinaryPieces}
+use Rattle.offload_binaries.specs.Examples.{BinaryExamples}
 
-pub pieces : BinaryPieces
+pub pieces : BinaryExamples
 unfolding bytesOf word wordOf same empty first anyBelow _⨾_ stopIf stopWhen earlier tab slots bytesAt run ended sizeOf entryAt own entryOf keyAt textAt stringAt pair key badHead badSpan badKinds badTable badString badPair badStrings badImage bodyStop binaryStop handsBack binary fieldBytes texts stringBytes offsets up8 zeros stringsStart stringsEnd imageStart imageEnd binarySize headFields written past nextStop next cursorAfter answer binariesOnly accepted
 pieces = record {
-  empty-input = refl;
-  bare-size = refl;
   bare-accepted = refl;
-  image-at = refl;
-  size = refl;
   accepted-both = refl;
   image-place = refl;
   short = refl;

@@ -1,13 +1,12 @@
--- Document 01's "Bench pieces" on offload binaries, and a piece on each side of the lines of 13 to 19, as one record: proofs/BenchProof.antt has its proof, by computation. Statements only.
+-- Binaries on each side of the lines of 13 to 19: proofs/ExamplesProof.antt proves them by computation. Statements only.
 use Prim.Native.Nat.{ℕ, zero, suc, _+_, _-_, _^_}
 use mathlib.Core.Path.{_≡_}
 use mathlib.Core.Bool.{true, false}
 use mathlib.Core.List.{List, [], _∷_, _++_}
-use lib.ListN.{length, take, drop}
+use lib.ListN.{take, drop}
 use Rattle.wire.specs.Word.{bytesOf}
 use Rattle.wire.specs.Bytes.{bytes}
-use Rattle.offload_binary.specs.Binary.{refused}
-use Rattle.offload_binary.specs.Contents.{Contents, imageStart, written}
+use Rattle.offload_binary.specs.Contents.{Contents, written}
 use Rattle.offload_binaries.specs.Reader.{answer, accepted, binaries}
 
 -- a binary with no strings and no image, and one with `arch`/`sm_70` and a 3-byte image
@@ -26,12 +25,8 @@ abbrev pub bares : ℕ → List ℕ
 bares zero = []
 bares (suc n) = written bare ++ bares n
 
-pub record BinaryPieces : Type 0 where
-  pub empty-input : answer [] 0 ≡ refused 19 0
-  pub bare-size : length (written bare) ≡ 72
+pub record BinaryExamples : Type 0 where
   pub bare-accepted : accepted (written bare) ≡ true
-  pub image-at : imageStart sm70 ≡ 104
-  pub size : length (written sm70) ≡ 112
   pub accepted-both : accepted (written bare ++ written sm70) ≡ true
   pub image-place : answer (written bare ++ written sm70) 1 .binary .image ≡ record { start = 176; len = 3 }
   -- 13
