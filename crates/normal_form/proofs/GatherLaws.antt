@@ -1,12 +1,12 @@
 -- The writer over the first 64 records of a list is the writer over the list: more are refused. Assumes nothing.
 use Prim.Native.Nat.{ℕ, _<_, _≤_}
 use native.Mathlib.Omega.{arith}
-use mathlib.Core.Path.{_≡_, refl, sym, ap, ap₂, _∙_}
+use mathlib.Core.Path.{_≡_, refl, ap, ap₂, _∙_}
 use mathlib.Core.List.{List}
 use lib.Dec.{ltb}
 use lib.ListN.{length}
 use borrow.Author.Tests.{ltb-true, ltb-false}
-use Rattle.wire.specs.Stop.{Stop, stop, _⨾_, stopIf, stopAt}
+use Rattle.wire.specs.Stop.{stop, _⨾_, stopIf}
 use Rattle.wire.proofs.Bools.{byBool}
 use Rattle.wire.proofs.StopLaws.{⨾-stop, stopAt-same}
 use Rattle.entry_id.specs.IdRules.{IdRules}

@@ -12,7 +12,7 @@ ghost use Rattle.bundle.specs.Records.{noRecord, recordAt, text};
 ghost use Rattle.bundle.specs.Layout.{rowBytes, table, images, packedEnd, packedLength, encode};
 ghost use Rattle.bundle.specs.Normal.{roomStop, answer, over, output, normalise, normalised};
 ghost use Rattle.normal_form.specs.Writer.{write, writtenTo};
-ghost use Rattle.normal_form.specs.Code.{inOrder, upTo, Filled, Placed, Measured, sizeOf, idOf, rowAfter, gathered};
+ghost use Rattle.normal_form.specs.Code.{inOrder, upTo, Ordered, Placed, Measured, sizeOf, idOf, rowAfter, gathered};
 use bundle::EntryRecord;
 use bundle::Written;
 
@@ -50,6 +50,30 @@ fn sorted(texts: &[u8], lens: &[usize], n: usize) -> [usize; 64]
         sift(texts, lens, n, &mut order, i);
     }
     order
+}
+
+// The indices as they stand.
+fn as_given() -> [usize; 64]
+    ensures { λ r. ⌜ (length r ≡ 64) × ((k : ℕ) → k < 64 → getD r k 0 ≡ k) ⌝ }
+{
+    let mut order = [0usize; 64];
+    let mut k: usize = 0;
+    while k < 64 {
+        order[k] = k;
+        k += 1;
+    }
+    order
+}
+
+// The order of n entries: rising by the texts in their slots, or as they stand.
+fn order_of(rising: bool, texts: &[u8], lens: &[usize], n: usize) -> [usize; 64]
+    requires { ⌜ n ≤ 64 ⌝ }
+    ensures { λ r. ⌜ (length r ≡ 64) × Ordered rising (now (texts .entry)) (now (lens .entry)) n r ⌝ }
+{
+    if rising {
+        return sorted(texts, lens, n);
+    }
+    as_given()
 }
 
 // ---- lengths
@@ -238,7 +262,7 @@ fn normalise_in(
         return refused(number, e.place);
     }
     let n = e.count;
-    let order = sorted(texts, lens, n);
+    let order = order_of(true, texts, lens, n);
     let rows = e.rows;
     write_entries(bundle, rows, texts, lens, n, order, out)
 }
@@ -254,19 +278,6 @@ pub fn normalise(bundle: &[u8], out: &mut [u8]) -> Written
 }
 
 // ---- the bundle writer
-
-// The order in which the entries stand.
-fn as_given() -> [usize; 64]
-    ensures { λ r. ⌜ (length r ≡ 64) × ((k : ℕ) → k < 64 → getD r k 0 ≡ k) ⌝ }
-{
-    let mut order = [0usize; 64];
-    let mut k: usize = 0;
-    while k < 64 {
-        order[k] = k;
-        k += 1;
-    }
-    order
-}
 
 fn write_in(
     records: [EntryRecord; 64],
@@ -285,7 +296,7 @@ fn write_in(
     if 0 < number {
         return refused(number, t.place);
     }
-    let order = as_given();
+    let order = order_of(false, texts, lens, n);
     write_entries(images, records, texts, lens, n, order, out)
 }
 
