@@ -56,7 +56,9 @@ use Rattle.offload_binaries.proofs.Step as S
 use Rattle.offload_binaries.proofs.Step.Laws as S′
 use Rattle.offload_binaries.proofs.next_at as at′
 use Rattle.offload_binaries.proofs.next_at.Symbol as at-def
+use Rattle.offload_binaries.proofs.next_at.Symbol.{name as #next-at}
 use Rattle.offload_binaries.proofs.next_at.Met as at-thm
+use Rattle.offload_binaries.proofs.Reader.next.Key.{name as #next}
 use Rattle.offload_binaries.proofs.Reader.next as this
 use Rattle.offload_binaries.proofs.Reader.next.Statement as stated
 use Rattle.offload_binaries.proofs.Reader.next.Code as code

@@ -41,6 +41,7 @@ use Rattle.offload_binaries.proofs.Cursor as C
 use Rattle.offload_binaries.proofs.Cursor.Laws as C′
 use Rattle.offload_binaries.proofs.Reader as T
 use Rattle.offload_binaries.proofs.Reader.Laws as T′
+use Rattle.offload_binaries.proofs.Reader.open.Key.{name as #open}
 use Rattle.offload_binaries.proofs.Reader.open as this
 use Rattle.offload_binaries.proofs.Reader.open.Statement as stated
 use Rattle.offload_binaries.proofs.Reader.open.Code as code
