@@ -8,7 +8,7 @@ use mathlib.Core.List.{List}
 use lib.ListN.{length}
 use borrow.Author.Tests.{leb-true, le-leb, lt-ltb, le-ltb}
 use Rattle.wire.specs.First.{first}
-use Rattle.wire.specs.Stop.{Stop, _⨾_, stopIf, stopWhen, stopAt}
+use Rattle.wire.specs.Stop.{Stop, stop, _⨾_, stopIf, stopWhen, stopAt}
 use Rattle.wire.proofs.Bools.{byBool, and-both, both-and, not-no, yes-not}
 use Rattle.wire.proofs.FirstLaws.{first-before}
 use Rattle.wire.proofs.StopLaws.{⨾-go}
@@ -38,13 +38,16 @@ partFits room r = (
 pub partBad : (room : ℕ) (r : EntryRecord) → (PartFits room r → ⊥) → badPart room r ≡ true
 partBad room r h = byBool (badPart room r) (λ t. t) (λ f. absurd (h (partFits room r .0 f)))
 
+pub stop-many : (R : IdRules) (ids : List ℕ) (len n : ℕ) (rows : List EntryRecord) → 64 < n → recordsStop R ids len n rows ≡ stop 3 0
+unfolding recordsStop stopIf stopWhen _⨾_
+stop-many R ids len n rows h = rw (lt-ltb 64 n h)
+
 module _ (R : IdRules) (ids : List ℕ) (len n : ℕ) (rows : List EntryRecord) (texts lens : List ℕ) where
   abbrev Answer : ℕ → ℕ → Type 0
   Answer k i = Judged R (recordsStop R ids len n rows) (rowsOf ids rows) n texts lens k i
 
   pub records-many : 64 < n → Answer 3 0
-  unfolding recordsStop stopIf stopWhen _⨾_
-  records-many h = judged R (rowsOf ids rows) n texts lens 2 0 _ (rw (lt-ltb 64 n h))
+  records-many h = judged R (rowsOf ids rows) n texts lens 2 0 _ (sym (stop-many R ids len n rows h))
 
   module _ (few : n ≤ 64) (bad : ℕ) (e : bad ≡ first n (λ i. badPart (length ids) (recordAt rows i))) where
     past-3 : (t : Stop) → t ≡ stopAt 4 n (λ i. badPart (length ids) (recordAt rows i)) ⨾ rowsStop R 0 len n (rowsOf ids rows) → t ≡ recordsStop R ids len n rows

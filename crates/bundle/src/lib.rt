@@ -1,7 +1,7 @@
 // The check of a bundle, and the pick of the image for a device name.
 ghost use mathlib.Core.Path.{_≡_};
 ghost use Prim.Native.Nat.{_+_, _*_, _<_, _≤_};
-ghost use lib.ListN.{length, getD, take, drop};
+ghost use lib.ListN.{length, getD, take, drop, replicate};
 ghost use Rattle.wire.specs.Bytes.{same, overwrite};
 ghost use Rattle.wire.specs.First.{first};
 ghost use Rattle.wire.specs.Stop.{stop, earlier};
@@ -11,7 +11,7 @@ ghost use Rattle.bundle.specs.Check.{badRow, outside, headStop, rowsStop
 ghost use Rattle.bundle.specs.Pick.{pick};
 ghost use Rattle.bundle.specs.Accepted.{RowFits};
 ghost use Rattle.bundle.specs.Theorems.{refusal};
-ghost use Rattle.bundle.specs.Records.{recordAt, rowsOf, badPart, recordsStop, text, Judged, Examination};
+ghost use Rattle.bundle.specs.Records.{noRecord, recordAt, rowsOf, badPart, recordsStop, text, Judged, Examination};
 ghost use Rattle.bundle.specs.Code.{heldRow, Rows, Tabled, badRecord, IdsIn, Room, Canonical, Texts, Named, relation};
 
 // What a check returns: the refusal's number and place, or 0, 0 and the entry count.
@@ -133,8 +133,9 @@ fn row_at(s: &[u8], at: usize) -> EntryRecord
     }
 }
 
-fn no_rows() -> [EntryRecord; 64]
-    ensures { λ r. ⌜ length r ≡ 64 ⌝ }
+// The record of zeros in each of 64 places.
+pub fn no_records() -> [EntryRecord; 64]
+    ensures { λ r. ⌜ r ≡ replicate 64 noRecord ⌝ }
 {
     let none = EntryRecord {
         id_start: 0,
@@ -150,7 +151,7 @@ fn read_table(s: &[u8], n: usize) -> Table
     requires { ⌜ (32 ≤ length (now s)) × (n ≤ 64) ⌝ }
     ensures { λ r. ⌜ Tabled (now (s .entry)) n (r .rows) (r .bad) (r .end) ⌝ }
 {
-    let mut rows = no_rows();
+    let mut rows = no_records();
     let mut i: usize = 0;
     let mut at: usize = 32;
     while i < n {
@@ -424,7 +425,7 @@ fn examine_in(s: &[u8], texts: &mut [u8], lens: &mut [usize]) -> Examined
             number: first,
             place: 0,
             count: 0,
-            rows: no_rows(),
+            rows: no_records(),
         };
     }
     let n = wire::word8_at(s, 24) as usize;

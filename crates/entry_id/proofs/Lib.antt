@@ -14,5 +14,5 @@ pub mod SpanLaws
 pub mod PlanLaws
 pub mod TestLaws
 pub mod Theorems
-pub mod BenchProof
+pub mod ExamplesProof
 pub mod RuleLaws

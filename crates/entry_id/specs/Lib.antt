@@ -5,5 +5,5 @@ pub mod Canonical
 pub mod IdRules
 pub mod Rules
 pub mod Theorems
-pub mod Bench
+pub mod Examples
 pub mod Code

@@ -3,31 +3,31 @@ use Prim.Native.Nat.{ℕ, zero, suc, _+_, _<_, _≤_}
 use native.Mathlib.Omega.{arith}
 use native.Mathlib.Nat.{zero-add}
 use mathlib.Core.Path.{_≡_, refl, sym, ap, ap₂, _∙_}
-use mathlib.Core.List.{List, [], _∷_, _++_, append-assoc}
+use mathlib.Core.List.{List, [], _++_}
 use lib.ListN.{length, getD, take, drop, length-append}
 use lib.Seq.{ext-getD}
 use borrow.Author.Tests.{lt-ltb, le-ltb}
 use Rattle.wire.specs.Bytes.{overwrite}
 use Rattle.wire.specs.Lists.{total}
-use Rattle.wire.specs.Stop.{Stop, stop, go, _⨾_, stopIf, stopWhen}
+use Rattle.wire.specs.Stop.{stop, _⨾_, stopIf, stopWhen}
 use Rattle.wire.specs.Word.{bytesOf}
 use Rattle.wire.proofs.OverwriteLaws.{overwrite-in, overwrite-then}
 use Rattle.wire.proofs.WordLaws.{length-bytesOf}
 use Rattle.bundle.specs.Lists.{tab}
-use Rattle.bundle.specs.Table.{Row, magic}
+use Rattle.bundle.specs.Table.{magic}
 use Rattle.bundle.specs.Check.{limit, unrefused}
-use Rattle.bundle.specs.Entry.{Entry, noEntry, imageOf}
-use Rattle.bundle.specs.Records.{recordAt, rowOf, text}
+use Rattle.bundle.specs.Entry.{Entry, noEntry}
+use Rattle.bundle.specs.Records.{recordAt, rowOf}
 use Rattle.bundle.specs.Layout.{rowSize, entrySize, table, bundle, packedEnd, packedLength, images, packed, encode, noRow}
 use Rattle.bundle.specs.Normal.{roomStop, answer, over, output}
 use Rattle.bundle.specs.declared.EntryRecord.{EntryRecord}
 use Rattle.bundle.specs.declared.Written.{Written}
 use Rattle.bundle.proofs.ListLaws.{length-tab, getD-tab, take-tab}
 use Rattle.bundle.proofs.EntryLaws.{length-imageOf}
-use Rattle.bundle.proofs.LayoutLaws.{length-magic, table-append}
+use Rattle.bundle.proofs.LayoutLaws.{length-magic}
 use Rattle.bundle.proofs.ReadBack.{length-table}
 use Rattle.bundle.proofs.PackLaws.{length-packed, packed-at, length-images, packed-lengths}
-use Rattle.bundle.proofs.NormalLaws.{roomStop-go, output-go, output-stop}
+use Rattle.bundle.proofs.NormalLaws.{roomStop-go}
 use Rattle.normal_form.specs.Code.{entryAt, given, inOrder, upTo, Fits, Filled, Placed, rowLength, entryLength, Measured, sizeOf, idOf, rowAfter}
 use Rattle.normal_form.proofs.SumLaws.{sum-tab, found-over, found-in}
 

@@ -13,7 +13,7 @@ use native.Mathlib.Omega.{arith}
 use mathlib.Core.List.{List, [], _∷_, _++_}
 use mathlib.Core.Logic.{⊎-elim}
 use lib.Dec.{lit≤}
-use lib.ListN.{length, getD, set, replicate, take, length-set, length-replicate, length-append}
+use lib.ListN.{length, getD, set, replicate, length-set, length-replicate, length-append}
 use lib.Seq.{ext-getD, getD-set-same, getD-set-other, getD-take, length-take-le}
 use Rattle.bundle.specs.Records.{noRecord}
 use Rattle.normal_form.specs.Code.{gathered}

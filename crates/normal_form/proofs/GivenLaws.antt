@@ -1,22 +1,22 @@
 -- Records with their canonical IDs in slots are the entries of their rows; an order of them. Assumes nothing.
 use Prim.Native.Nat.{ℕ, _+_, _<_, _≤_}
 use native.Mathlib.Omega.{arith}
-use mathlib.Core.Path.{_≡_, refl, sym, ap, ap₂, _∙_}
-use mathlib.Core.List.{List, [], map}
+use mathlib.Core.Path.{_≡_, sym, ap, ap₂, _∙_}
+use mathlib.Core.List.{List, map}
 use lib.ListN.{length, getD, take}
 use Rattle.wire.specs.Order.{sortBy}
 use Rattle.wire.proofs.SortLaws.{sort-map, sort-total}
 use Rattle.entry_id.specs.IdRules.{IdRules, Lawful}
 use Rattle.bundle.specs.Lists.{tab}
 use Rattle.bundle.specs.Table.{Row}
-use Rattle.bundle.specs.Entry.{Entry, imageOf, entryOf, entriesOf}
-use Rattle.bundle.specs.Records.{recordAt, rowOf, rowsOf, text, Held}
+use Rattle.bundle.specs.Entry.{imageOf, entryOf, entriesOf}
+use Rattle.bundle.specs.Records.{rowOf, rowsOf, text, Held}
 use Rattle.bundle.specs.Layout.{rowSize, packedEnd, packedLength}
 use Rattle.bundle.specs.Normal.{byId}
 use Rattle.bundle.specs.declared.EntryRecord.{EntryRecord}
 use Rattle.bundle.proofs.ListLaws.{tab-same, tab-take, map-tab}
 use Rattle.bundle.proofs.NormalLaws.{sort-packedLength}
-use Rattle.normal_form.specs.Code.{entryAt, given, inOrder, upTo, Fits, Filled, Placed}
+use Rattle.normal_form.specs.Code.{entryAt, given, inOrder, upTo, Filled, Placed}
 use Rattle.normal_form.proofs.OrderLaws.{sorted-below}
 
 -- ---- records whose IDs lie in `ids` and whose images lie in `src`, with the canonical IDs of their rows in slots

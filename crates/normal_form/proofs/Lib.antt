@@ -6,3 +6,4 @@ pub mod GivenLaws
 pub mod NormaliseLaws
 pub mod WriterLaws
 pub mod Gathered
+pub mod GatherLaws

@@ -1,9 +1,9 @@
 -- A list with one element moved up, and sorting index by index. Assumes nothing.
-use Prim.Native.Nat.{ℕ, zero, suc, _+_, _-_, _<_, _≤_}
+use Prim.Native.Nat.{ℕ, suc, _+_, _-_, _<_, _≤_}
 use native.Mathlib.Omega.{arith}
 use native.Mathlib.Numerals.{add-one}
 use mathlib.Core.Path.{_≡_, refl, sym, ap, ap₂, _∙_, subst}
-use mathlib.Core.Bool.{Bool, true, false}
+use mathlib.Core.Bool.{true, false}
 use mathlib.Core.List.{List, [], _∷_, _++_, append-assoc, List·Memᴰ}
 use lib.ListN.{length, getD, take, drop, set, length-append, length-drop, drop-of-length-le}
 use lib.Seq.{take-suc, drop-cons, set-at, take-set-lt, drop-set-add, drop-set-lt, getD-drop, getD-take, length-take-le, getD-append-add}
@@ -13,7 +13,6 @@ use Rattle.wire.specs.Order.{insertBy, sortBy}
 use Rattle.wire.proofs.FirstLaws.{first-is, first-none}
 use Rattle.wire.proofs.ListLaws.{member-at, at-member}
 use Rattle.wire.proofs.SortLaws.{spot, insert-at, sort-drop, sort-out}
-use Rattle.bundle.specs.Lists.{tab}
 use Rattle.bundle.proofs.ListLaws.{length-tab, getD-tab}
 use Rattle.normal_form.specs.Code.{upTo}
 

@@ -2,9 +2,8 @@
 use Prim.Native.Nat.{ℕ, zero, suc, _+_, _<_, _≤_}
 use native.Mathlib.Omega.{arith}
 use mathlib.Core.Path.{_≡_, refl, sym, ap, ap₂, _∙_}
-use mathlib.Core.List.{List, [], _∷_, _++_, append-assoc, append-nil}
-use lib.ListN.{length, getD, take, drop, length-append, length-drop}
-use lib.Seq.{length-take-le}
+use mathlib.Core.List.{List, [], _∷_, _++_, append-nil}
+use lib.ListN.{length, getD, length-append}
 use Rattle.wire.specs.Bytes.{overwrite}
 use Rattle.wire.specs.Lists.{total}
 use Rattle.wire.specs.Word.{bytesOf}
@@ -12,7 +11,7 @@ use Rattle.wire.proofs.OverwriteLaws.{overwrite-nil, overwrite-then}
 use Rattle.wire.proofs.WordLaws.{length-bytesOf}
 use Rattle.bundle.specs.Lists.{tab}
 use Rattle.bundle.specs.Table.{Row}
-use Rattle.bundle.specs.Entry.{Entry, imageOf}
+use Rattle.bundle.specs.Entry.{Entry}
 use Rattle.bundle.specs.Records.{recordAt, rowOf}
 use Rattle.bundle.specs.Layout.{rowBytes, table, images}
 use Rattle.bundle.specs.declared.EntryRecord.{EntryRecord}

@@ -1,28 +1,26 @@
 -- The bundle writer over records that were examined, and that what it writes reads back. Assumes nothing.
-use Prim.Native.Nat.{ℕ, zero, suc, _+_, _≤_, _<_}
-use native.Mathlib.Omega.{arith}
+use Prim.Native.Nat.{ℕ, _≤_, _<_}
 use mathlib.Core.Path.{_≡_, refl, sym, ap, ap₂, _∙_}
 use mathlib.Core.List.{List}
 use lib.ListN.{length, getD}
 use borrow.Author.Tests.{ltb-false}
-use Rattle.wire.specs.Stop.{Stop, go, stop, _⨾_}
+use Rattle.wire.specs.Stop.{go, _⨾_}
 use Rattle.wire.proofs.StopLaws.{⨾-next, ⨾-left, ⨾-right, stopIf-no}
 use Rattle.entry_id.specs.IdRules.{IdRules, Lawful}
 use Rattle.bundle.specs.Check.{limit, unrefused}
 use Rattle.bundle.specs.Accepted.{Sound}
-use Rattle.bundle.specs.Entry.{Entry, noEntry, entriesOf}
-use Rattle.bundle.specs.Records.{recordAt, rowsOf, recordsStop, Judged}
+use Rattle.bundle.specs.Entry.{Entry, noEntry}
+use Rattle.bundle.specs.Records.{rowsOf, recordsStop, Judged}
 use Rattle.bundle.specs.Layout.{packedLength, encode, Writable, ReadsBack}
 use Rattle.bundle.specs.Normal.{roomStop, answer, output}
 use Rattle.bundle.specs.declared.EntryRecord.{EntryRecord}
 use Rattle.bundle.specs.declared.Written.{Written}
-use Rattle.bundle.proofs.CheckLaws.{unrefused-go}
 use Rattle.bundle.proofs.AcceptLaws.{sound}
 use Rattle.bundle.proofs.EntryLaws.{entries-at, entries-writable}
 use Rattle.bundle.proofs.PackLaws.{length-encode, encode-reads-back}
 use Rattle.bundle.proofs.NormalLaws.{roomStop-go}
 use Rattle.normal_form.specs.Writer.{entriesGiven, writeStop, write, writtenTo, WriterReadsBack, WritesRead}
-use Rattle.normal_form.specs.Code.{given, inOrder, Filled, Placed}
+use Rattle.normal_form.specs.Code.{inOrder, Filled, Placed}
 use Rattle.normal_form.proofs.GivenLaws.{filled, given-is, given-entries, given-placed}
 use Rattle.normal_form.proofs.NormaliseLaws.{answer-stop, refused-out, first-stops}
 

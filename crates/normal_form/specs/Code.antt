@@ -1,11 +1,12 @@
 -- What the code that writes holds between its steps. No public promise rests on this file.
 use Prim.Native.Nat.{ℕ, _+_, _<_, _≤_}
 use mathlib.Core.Path.{_≡_}
-use mathlib.Core.Bool.{cond}
+use mathlib.Core.Bool.{Bool, true, false, cond}
 use mathlib.Core.List.{List, [], _++_}
 use lib.Dec.{ltb}
 use lib.ListN.{length, getD, take, replicate}
 use Rattle.wire.specs.Lists.{total}
+use Rattle.wire.specs.Order.{sortBy}
 use Rattle.bundle.specs.Lists.{tab}
 use Rattle.bundle.specs.Table.{Row}
 use Rattle.bundle.specs.Check.{limit}
@@ -49,6 +50,11 @@ pub record Placed (src : List ℕ) (rows : List EntryRecord) (texts lens : List 
   pub index : (k : ℕ) → k < n → getD order k 0 < n
   pub end-same : packedEnd (inOrder src rows texts lens n order) ≡ packedEnd (given src rows texts lens n)
   pub length-same : packedLength (inOrder src rows texts lens n order) ≡ packedLength (given src rows texts lens n)
+
+-- an order of n entries: rising by their IDs; or the order given
+abbrev pub Ordered : Bool → List ℕ → List ℕ → ℕ → List ℕ → Type 0
+Ordered true texts lens n order = take n order ≡ sortBy (text texts lens) (upTo n)
+Ordered false texts lens n order = (k : ℕ) → k < 64 → getD order k 0 ≡ k
 
 -- ---- lengths
 

@@ -2,7 +2,7 @@
 ghost use mathlib.Core.Path.{_≡_};
 ghost use Prim.Native.Nat.{ℕ, _+_, _<_, _≤_};
 ghost use mathlib.Core.List.{[]};
-ghost use lib.ListN.{length, getD, take, drop, set, replicate};
+ghost use lib.ListN.{length, getD, take, drop, set};
 ghost use Rattle.wire.specs.Bytes.{overwrite};
 ghost use Rattle.wire.specs.Order.{insertBy, sortBy};
 ghost use Rattle.wire.specs.Lists.{total};
@@ -12,7 +12,7 @@ ghost use Rattle.bundle.specs.Records.{noRecord, recordAt, text};
 ghost use Rattle.bundle.specs.Layout.{rowBytes, table, images, packedEnd, packedLength, encode};
 ghost use Rattle.bundle.specs.Normal.{roomStop, answer, over, output, normalise, normalised};
 ghost use Rattle.normal_form.specs.Writer.{write, writtenTo};
-ghost use Rattle.normal_form.specs.Code.{inOrder, upTo, Filled, Placed, Measured, sizeOf, idOf, rowAfter, gathered};
+ghost use Rattle.normal_form.specs.Code.{inOrder, upTo, Ordered, Placed, Measured, sizeOf, idOf, rowAfter, gathered};
 use bundle::EntryRecord;
 use bundle::Written;
 
@@ -50,6 +50,30 @@ fn sorted(texts: &[u8], lens: &[usize], n: usize) -> [usize; 64]
         sift(texts, lens, n, &mut order, i);
     }
     order
+}
+
+// The indices as they stand.
+fn as_given() -> [usize; 64]
+    ensures { λ r. ⌜ (length r ≡ 64) × ((k : ℕ) → k < 64 → getD r k 0 ≡ k) ⌝ }
+{
+    let mut order = [0usize; 64];
+    let mut k: usize = 0;
+    while k < 64 {
+        order[k] = k;
+        k += 1;
+    }
+    order
+}
+
+// The order of n entries: rising by the texts in their slots, or as they stand.
+fn order_of(rising: bool, texts: &[u8], lens: &[usize], n: usize) -> [usize; 64]
+    requires { ⌜ n ≤ 64 ⌝ }
+    ensures { λ r. ⌜ (length r ≡ 64) × Ordered rising (now (texts .entry)) (now (lens .entry)) n r ⌝ }
+{
+    if rising {
+        return sorted(texts, lens, n);
+    }
+    as_given()
 }
 
 // ---- lengths
@@ -238,7 +262,7 @@ fn normalise_in(
         return refused(number, e.place);
     }
     let n = e.count;
-    let order = sorted(texts, lens, n);
+    let order = order_of(true, texts, lens, n);
     let rows = e.rows;
     write_entries(bundle, rows, texts, lens, n, order, out)
 }
@@ -254,19 +278,6 @@ pub fn normalise(bundle: &[u8], out: &mut [u8]) -> Written
 }
 
 // ---- the bundle writer
-
-// The order in which the entries stand.
-fn as_given() -> [usize; 64]
-    ensures { λ r. ⌜ (length r ≡ 64) × ((k : ℕ) → k < 64 → getD r k 0 ≡ k) ⌝ }
-{
-    let mut order = [0usize; 64];
-    let mut k: usize = 0;
-    while k < 64 {
-        order[k] = k;
-        k += 1;
-    }
-    order
-}
 
 fn write_in(
     records: [EntryRecord; 64],
@@ -285,7 +296,7 @@ fn write_in(
     if 0 < number {
         return refused(number, t.place);
     }
-    let order = as_given();
+    let order = order_of(false, texts, lens, n);
     write_entries(images, records, texts, lens, n, order, out)
 }
 
@@ -327,19 +338,6 @@ fn record_at(records: &[EntryRecord], i: usize) -> EntryRecord
     }
 }
 
-// The record of zeros in each of 64 places.
-fn no_records() -> [EntryRecord; 64]
-    ensures { λ r. ⌜ r ≡ replicate 64 noRecord ⌝ }
-{
-    let none = EntryRecord {
-        id_start: 0,
-        id_len: 0,
-        image_start: 0,
-        image_len: 0,
-    };
-    [none; 64]
-}
-
 // The places with record x at place i.
 fn put_record(a: [EntryRecord; 64], i: usize, x: EntryRecord) -> [EntryRecord; 64]
     requires { ⌜ i < 64 ⌝ }
@@ -354,11 +352,18 @@ fn put_record(a: [EntryRecord; 64], i: usize, x: EntryRecord) -> [EntryRecord; 6
 fn gather(records: &[EntryRecord]) -> [EntryRecord; 64]
     ensures { λ r. ⌜ r ≡ gathered (now (records .entry)) ⌝ }
 {
-    let mut a = no_records();
+    let mut a = bundle::no_records();
     let mut i = 0;
     while i < 64 {
         a = put_record(a, i, record_at(records, i));
         i += 1;
     }
     a
+}
+
+// The bundle of a lent list of records, whose IDs lie in `ids` and whose images lie in `images`, over `out`.
+pub fn write_bundle(records: &[EntryRecord], ids: &[u8], images: &[u8], out: &mut [u8]) -> Written
+    ensures { λ r. ⌜ (r ≡ write idRules (length (now (records .entry))) (now (records .entry)) (now (ids .entry)) (now (images .entry)) (length (now (out .entry)))) × (now (out .exit) ≡ writtenTo idRules (length (now (records .entry))) (now (records .entry)) (now (ids .entry)) (now (images .entry)) (now (out .entry))) ⌝ }
+{
+    write_list(gather(records), record_count(records), ids, images, out)
 }

@@ -1,3 +1,4 @@
 pub mod Reader
 pub mod Held
 pub mod Theorems
+pub mod Examples

@@ -1,6 +1,5 @@
 // LLVM's offload binaries laid end to end: a cursor that reads one after another, and a reader that holds the bytes.
 use offload_binary::Answer;
-use offload_binary::Binary;
 ghost use mathlib.Core.Path.{_≡_};
 ghost use Rattle.offload_binary.specs.Binary.{refused};
 ghost use Rattle.offload_binaries.specs.Reader.{opened, next};
@@ -45,7 +44,8 @@ pub fn next_at(s: &[u8], cursor: Cursor) -> Step
         return Step { answer, cursor };
     }
     let binary = answer.binary;
-    let next = position + binary.size;
+    let size = binary.size;
+    let next = position + size;
     let count = taken + 1;
     Step {
         answer,
@@ -63,7 +63,7 @@ pub struct Reader<'a> {
 }
 
 impl<'a> Reader<'a> {
-    // At the first byte; LENGTH is what its first call then answers, and each other.
+    // A reader at the first byte. On bytes above the size limit every call then answers LENGTH.
     pub fn open(bytes: &'a [u8]) -> Reader<'a>
         ensures { λ r. ⌜ r ≡ record { bytes = bytes .entry; cursor = opened } ⌝ }
     {

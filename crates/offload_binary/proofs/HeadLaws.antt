@@ -29,10 +29,6 @@ module _ (b : List ℕ) where
   unfolding badHead
   head-version h e = rw (le-ltb _ _ h, e)
 
-  pub head-long : badHead b ≡ false → 32 ≤ length b
-  unfolding badHead
-  head-long e = ltb-false _ _ (or-neither _ _ (or-neither _ _ e .0) .0)
-
 -- ---- 14, with the size and the entry's offset that were read
 
 module _ (b : List ℕ) (size entry : ℕ) (s : size ≡ word 8 b 8) (e : entry ≡ word 8 b 16) where

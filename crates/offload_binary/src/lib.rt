@@ -160,7 +160,8 @@ fn read_pair(o: &[u8], from: usize, table: usize, i: usize) -> ReadPair
     }
 }
 
-fn no_pairs() -> [StringPair; 32]
+// An array of pairs of no bytes.
+pub fn no_pairs() -> [StringPair; 32]
     ensures { λ r. ⌜ r ≡ slots 32 noPair [] ⌝ }
 {
     let none = StringPair {

@@ -1,8 +1,8 @@
 -- What stands in the places that `gather` fills, turn by turn, and that after the last turn it is `gathered`.
---     sofar ys i       the places after i turns: 32 records of zeros, of which the first i are overwritten
+--     sofar ys i       the places after i turns: 32 pairs of no bytes, of which the first i are overwritten
 --     sofar-next       a turn more
 --     sofar-all        after 32 turns they are `gathered ys`
---     gathered-at      record i of `gathered ys`, for i below 32, is record i of ys, or the pair of no bytes past its end
+--     gathered-at      pair i of `gathered ys`, for i below 32, is pair i of ys, or the pair of no bytes past its end
 --     gathered-length  there are 32
 --     listed-all, write-gathered   what the writer makes of the array is what it makes of the list
 -- Assumes nothing.
@@ -19,7 +19,7 @@ use lib.Seq.{ext-getD, getD-set-same, getD-set-other, getD-take, length-take-le}
 use lib.Dec.{leb}
 use borrow.Author.Tests.{leb-true, leb-false}
 use Rattle.wire.proofs.Bools.{byBool}
-use Rattle.offload_binary.specs.Lists.{tab}
+use Rattle.offload_binary.specs.Lists.{tab, slots}
 use Rattle.offload_binary.proofs.ListLaws.{length-tab, getD-tab}
 use Rattle.offload_binary_writer.specs.Writer.{write}
 use Rattle.offload_binary_list.specs.Code.{gathered}
@@ -32,10 +32,10 @@ use Rattle.offload_binary.specs.declared.StringPair.{StringPair}
 
 -- shut outside this file, so that no check unfolds a list of 32
 unfoldable pub sofar : List StringPair → ℕ → List StringPair
-sofar ys zero = replicate 32 noPair
+sofar ys zero = slots 32 noPair []
 sofar ys (suc i) = set (sofar ys i) i (getD ys i noPair)
 
-pub sofar-none : (ys : List StringPair) → replicate 32 noPair ≡ sofar ys 0
+pub sofar-none : (ys : List StringPair) → slots 32 noPair [] ≡ sofar ys 0
 unfolding sofar
 sofar-none ys = refl
 
@@ -44,7 +44,7 @@ unfolding sofar
 sofar-next ys i = ap (sofar ys) (sym (add-one i))
 
 sofar-length : (ys : List StringPair) (i : ℕ) → length (sofar ys i) ≡ 32
-unfolding sofar
+unfolding sofar slots
 sofar-length ys zero = length-replicate 32 noPair
 sofar-length ys (suc i) = length-set (sofar ys i) i (getD ys i noPair) ∙ sofar-length ys i
 

@@ -5,7 +5,7 @@ use offload_binary_writer::Tags;
 use offload_binary_writer::Written;
 ghost use mathlib.Core.Path.{_≡_};
 ghost use Prim.Native.Nat.{_<_};
-ghost use lib.ListN.{length, getD, set, replicate};
+ghost use lib.ListN.{length, getD, set};
 ghost use Rattle.offload_binary.specs.Binary.{noPair};
 ghost use Rattle.offload_binary_writer.specs.Writer.{write};
 ghost use Rattle.offload_binary_list.specs.Code.{gathered};
@@ -31,16 +31,6 @@ fn pair_or_none(pairs: &[StringPair], i: usize) -> StringPair
     }
 }
 
-fn no_pairs() -> [StringPair; 32]
-    ensures { λ r. ⌜ r ≡ replicate 32 noPair ⌝ }
-{
-    let none = StringPair {
-        key: Part { start: 0, len: 0 },
-        text: Part { start: 0, len: 0 },
-    };
-    [none; 32]
-}
-
 // The array with x at place i.
 fn put_pair(a: [StringPair; 32], i: usize, x: StringPair) -> [StringPair; 32]
     requires { ⌜ i < 32 ⌝ }
@@ -55,7 +45,7 @@ fn put_pair(a: [StringPair; 32], i: usize, x: StringPair) -> [StringPair; 32]
 fn gather(pairs: &[StringPair]) -> [StringPair; 32]
     ensures { λ r. ⌜ r ≡ gathered (now (pairs .entry)) ⌝ }
 {
-    let mut a = no_pairs();
+    let mut a = offload_binary::no_pairs();
     let mut i = 0;
     while i < 32 {
         a = put_pair(a, i, pair_or_none(pairs, i));
@@ -64,7 +54,7 @@ fn gather(pairs: &[StringPair]) -> [StringPair; 32]
     a
 }
 
-// Writes a binary with these kinds and flags, this image, and the strings that the pairs name parts of `strings` for.
+// Writes a binary with these kinds and flags, this image, and string pairs that name parts of `strings`.
 pub fn write_binary(
     tags: Tags,
     image: &[u8],

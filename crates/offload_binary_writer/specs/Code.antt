@@ -1,9 +1,9 @@
 -- What the private functions of the writer ensure. No public promise rests on these. Definitions only.
-use Prim.Native.Nat.{ℕ, _+_, _*_, _/_, _%_, _≤_}
+use Prim.Native.Nat.{ℕ, _+_, _*_, _/_, _%_}
 use mathlib.Core.Path.{_≡_}
 use mathlib.Core.Bool.{cond}
 use mathlib.Core.List.{List, [], _∷_, _++_}
-use lib.ListN.{length, getD, take, replicate}
+use lib.ListN.{length, getD}
 use lib.Dec.{eqb}
 use Rattle.offload_binary.specs.Lists.{tab}
 use Rattle.offload_binary.specs.Binary.{magic, bytesAt, noPair}
@@ -27,7 +27,6 @@ pub record LayoutIs (f : ℕ → List ℕ) (n len : ℕ) (at : Layout) : Type 0 
   pub image-is : at .image ≡ up8 (at .end)
   pub stop-is : at .stop ≡ at .image + len
   pub size-is : at .size ≡ up8 (at .stop)
-  pub short : at .end ≤ 20000
 
 -- header and entry, number by number
 unfoldable pub headerBytes : ℕ → List ℕ

@@ -262,7 +262,7 @@ fn refused(number: usize) -> Written
     }
 }
 
-// Writes a binary with these kinds and flags, this image, and the strings that the pairs name parts of `buf` for: the first n pairs, of which an array holds 32.
+// Writes a binary with these kinds and flags, this image, and n string pairs that name parts of `buf`, from an array of them. More than 32 are refused by 16.
 pub fn write_array(
     tags: Tags,
     image: &[u8],

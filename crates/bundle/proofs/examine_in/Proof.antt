@@ -12,8 +12,8 @@ use Rattle.bundle.proofs.StageLaws.{examined-head, examined-table, exam
 head-requires : tie.Need-head-requires
 head-requires c κs = search needs
 
-no-rows-requires : tie.Need-no-rows-requires
-no-rows-requires c κs = search needs
+no-records-requires : tie.Need-no-records-requires
+no-records-requires c κs = search needs
 
 returns : tie.Need-returns
 returns c = examined-head idRules _ _ _ _ _ (c .before .before .head .ensures) (c .before .if1 .taken)
@@ -58,7 +58,7 @@ examine-in-spec =
     tie.close
     (tie.spec
     head-requires
-    no-rows-requires
+    no-records-requires
     returns
     word8-at-requires
     read-table-requires

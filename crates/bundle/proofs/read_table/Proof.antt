@@ -1,12 +1,13 @@
 use Rattle.bundle.proofs.read_table.Statement.{statement}
 use Rattle.bundle.proofs.read_table.Tie as tie
 use native.Mathlib.Omega.{arith}
-use mathlib.Core.Path.{_≡_, refl}
+use mathlib.Core.Path.{_≡_, refl, ap, _∙_}
 use Prim.Native.Nat.{_-_, _≤_}
 use borrow.Author.Needs.{needs}
 use borrow.Author.Count.{below-none}
-use lib.ListN.{length}
+use lib.ListN.{length, length-replicate}
 use Rattle.bundle.specs.Table.{rowStart}
+use Rattle.bundle.specs.Records.{noRecord}
 use Rattle.bundle.specs.Code.{Rows}
 use Rattle.bundle.proofs.RowLaws.{fine, row-next, rows-more, row-inside, tabled-bad, tabled-all}
 
@@ -16,12 +17,12 @@ Inv-loop s n rows₀ i₀ at₀ rows i at = (i ≤ n) × (at ≡ rowStart s i) �
 abbrev μ-loop : tie.MeasureT-loop
 μ-loop s n rows₀ i₀ at₀ rows i at = n - i
 
-no-rows-requires : tie.Need-no-rows-requires Inv-loop μ-loop
-no-rows-requires c κs = search needs
+no-records-requires : tie.Need-no-records-requires Inv-loop μ-loop
+no-records-requires c κs = search needs
 
 loop-holds : tie.Need-loop-holds Inv-loop μ-loop
 unfolding rowStart
-loop-holds c = (omega arith, refl, omega arith, record { few = omega arith; room = c .no-rows .ensures; fits = below-none _; each = below-none _ })
+loop-holds c = (omega arith, refl, omega arith, record { few = omega arith; room = ap length (c .no-records .ensures) ∙ length-replicate 64 noRecord; fits = below-none _; each = below-none _ })
 
 bad-row-requires : tie.Need-bad-row-requires Inv-loop μ-loop
 bad-row-requires c κs = search needs
@@ -70,7 +71,7 @@ read-table-spec =
     (tie.spec
     Inv-loop
     μ-loop
-    no-rows-requires
+    no-records-requires
     loop-holds
     bad-row-requires
     returns

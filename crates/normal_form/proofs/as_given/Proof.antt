@@ -1,13 +1,11 @@
 use native.Mathlib.Omega.{arith}
 use mathlib.Core.Path.{_≡_, refl, _∙_}
-use Prim.Native.Nat.{ℕ, _≤_, _<_, _-_, _+_}
+use Prim.Native.Nat.{ℕ, _≤_, _<_, _-_}
 use lib.ListN.{length, getD, length-set}
 use lib.Seq.{getD-set-same, getD-set-other}
 use borrow.Author.Count.{below-more, below-none}
 use Rattle.normal_form.proofs.as_given.Statement.{statement}
 use Rattle.normal_form.proofs.as_given.Tie as tie
-use Rattle.normal_form.proofs.as_given.Reads as reads
-use Rattle.normal_form.proofs.as_given.Lts as lts
 
 abbrev Inv-loop : tie.InvT-loop
 Inv-loop order₀ k₀ order k = (k ≤ 64) × (length order ≡ 64) × ((q : ℕ) → q < k → getD order q 0 ≡ q)
@@ -15,27 +13,21 @@ Inv-loop order₀ k₀ order k = (k ≤ 64) × (length order ≡ 64) × ((q : �
 abbrev μ-loop : tie.MeasureT-loop
 μ-loop order₀ k₀ order k = 64 - k
 
--- src/lib.rt:264:5
 loop-holds : tie.Need-loop-holds Inv-loop μ-loop
 loop-holds c = (omega arith, refl, below-none _)
 
--- src/lib.rt:265:9
 mul-order : tie.Need-mul-order Inv-loop μ-loop
 mul-order c = omega arith
 
--- src/lib.rt:265:9
 array-write-order : tie.Need-array-write-order Inv-loop μ-loop
 array-write-order c = omega arith
 
--- src/lib.rt:266:9
 add-k : tie.Need-add-k Inv-loop μ-loop
 add-k c = omega arith
 
--- src/lib.rt:264:5
 loop-less : tie.Need-loop-less Inv-loop μ-loop
 loop-less c = omega arith
 
--- src/lib.rt:264:5
 loop-again : tie.Need-loop-again Inv-loop μ-loop
 loop-again c =
     let l = c .before .loop in (
@@ -46,7 +38,6 @@ loop-again c =
           (getD-set-same (l .order) (l .k) (l .k) 0 (omega arith)),
     )
 
--- src/lib.rt:259:1
 returns : tie.Need-returns Inv-loop μ-loop
 returns c = let l = c .before .loop in (l .inv .1, λ q h. l .inv .2 q (omega arith))
 

@@ -1,5 +1,5 @@
 use native.Mathlib.Omega.{arith}
-use mathlib.Core.Path.{_≡_, sym, ap, _∙_}
+use mathlib.Core.Path.{_≡_, ap, _∙_}
 use Prim.Native.Nat.{_≤_, _-_, _+_}
 use Rattle.wire.specs.Lists.{total}
 use Rattle.bundle.specs.Check.{limit}
@@ -8,8 +8,6 @@ use Rattle.normal_form.specs.Code.{capped, upTo, rowLength, entryLength}
 use Rattle.normal_form.proofs.SumLaws.{sum-none, sum-next, sum-room, capped-over, capped-in}
 use Rattle.normal_form.proofs.measure.Statement.{statement}
 use Rattle.normal_form.proofs.measure.Tie as tie
-use Rattle.normal_form.proofs.measure.Reads as reads
-use Rattle.normal_form.proofs.measure.Lts as lts
 
 abbrev Inv-loop : tie.InvT-loop
 Inv-loop lens n rows end₀ all₀ i₀ end all i = (i ≤ n) × (end ≡ 32 + total (rowLength lens) (upTo i)) × (all ≡ 32 + total (entryLength rows lens) (upTo i)) × (end ≤ all) × (all ≤ limit)
@@ -17,19 +15,15 @@ Inv-loop lens n rows end₀ all₀ i₀ end all i = (i ≤ n) × (end ≡ 32 + t
 abbrev μ-loop : tie.MeasureT-loop
 μ-loop lens n rows end₀ all₀ i₀ end all i = n - i
 
--- src/lib.rt:69:5
 loop-holds : tie.Need-loop-holds Inv-loop μ-loop
 loop-holds c = let a = c .args in (omega arith, omega (arith, sum-none (rowLength (a .lens .now))), omega (arith, sum-none (entryLength (a .t1) (a .lens .now))), omega arith, omega arith)
 
--- src/lib.rt:70:17
 mul-r : tie.Need-mul-r Inv-loop μ-loop
 mul-r c = omega arith
 
--- src/lib.rt:70:17
 array-copy-out-r : tie.Need-array-copy-out-r Inv-loop μ-loop
 array-copy-out-r c = omega arith
 
--- src/lib.rt:73:13
 returns : tie.Need-returns Inv-loop μ-loop
 unfolding recordAt
 returns c =
@@ -37,31 +31,24 @@ returns c =
     let s = sum-room (entryLength (a .t1) (a .lens .now)) (a .n) (c .before .before .before .loop .i) (omega arith) in
     record { all-is = capped-over _ (omega (arith, s, c .if1 .taken)); end-is = λ h. absurd (omega arith) }
 
--- src/lib.rt:78:24
 mul-row : tie.Need-mul-row Inv-loop μ-loop
 mul-row c = omega arith
 
--- src/lib.rt:78:24
 shared-slice-read-row : tie.Need-shared-slice-read-row Inv-loop μ-loop
 shared-slice-read-row c = omega arith
 
--- src/lib.rt:78:19
 add-row : tie.Need-add-row Inv-loop μ-loop
 add-row c = omega (arith, c .before .before .before .before .before .pre .2 (c .before .before .before .before .loop .i) (omega arith))
 
--- src/lib.rt:79:15
 add-end : tie.Need-add-end Inv-loop μ-loop
 add-end c = omega (arith, c .before .before .before .before .before .pre .2 (c .before .before .before .before .loop .i) (omega arith))
 
--- src/lib.rt:80:22
 add-all : tie.Need-add-all Inv-loop μ-loop
 add-all c = omega (arith, c .before .before .before .before .before .pre .2 (c .before .before .before .before .loop .i) (omega arith))
 
--- src/lib.rt:80:15
 add-all-2 : tie.Need-add-all-2 Inv-loop μ-loop
 add-all-2 c = omega (arith, c .before .before .before .before .before .pre .2 (c .before .before .before .before .loop .i) (omega arith))
 
--- src/lib.rt:82:13
 returns-2 : tie.Need-returns-2 Inv-loop μ-loop
 unfolding recordAt
 returns-2 c =
@@ -69,15 +56,12 @@ returns-2 c =
     let s = sum-room (entryLength (a .t1) (a .lens .now)) (a .n) (c .before .before .before .before .before .loop .i) (omega arith) in
     record { all-is = capped-over _ (omega (arith, s, c .if2 .taken)); end-is = λ h. absurd (omega arith) }
 
--- src/lib.rt:87:9
 add-i : tie.Need-add-i Inv-loop μ-loop
 add-i c = omega arith
 
--- src/lib.rt:69:5
 loop-less : tie.Need-loop-less Inv-loop μ-loop
 loop-less c = omega arith
 
--- src/lib.rt:69:5
 loop-again : tie.Need-loop-again Inv-loop μ-loop
 unfolding recordAt
 loop-again c =
@@ -85,7 +69,6 @@ loop-again c =
     let l = c .before .before .before .before .before .loop in
     (omega arith, omega (arith, sum-next (rowLength (a .lens .now)) (l .i)), omega (arith, sum-next (entryLength (a .t1) (a .lens .now)) (l .i)), omega arith, omega arith)
 
--- src/lib.rt:62:1
 returns-3 : tie.Need-returns-3 Inv-loop μ-loop
 returns-3 c =
     let a = c .before .before .args in

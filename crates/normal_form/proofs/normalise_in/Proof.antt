@@ -1,6 +1,5 @@
 use native.Mathlib.Omega.{arith}
-use mathlib.Core.Path.{_≡_, refl, sym, ap, _∙_}
-use Prim.Native.Nat.{_≤_}
+use mathlib.Core.Path.{_≡_, _∙_}
 use lib.ListN.{length}
 use Rattle.entry_id.specs.Rules.{idRules}
 use Rattle.entry_id.proofs.RuleLaws.{idRules-lawful}
@@ -8,50 +7,37 @@ use Rattle.normal_form.proofs.NormaliseLaws.{refused-answer, refused-by
 use borrow.Author.Needs.{needs}
 use Rattle.normal_form.proofs.normalise_in.Statement.{statement}
 use Rattle.normal_form.proofs.normalise_in.Tie as tie
-use Rattle.normal_form.proofs.normalise_in.Reads as reads
-use Rattle.normal_form.proofs.normalise_in.Lts as lts
-use Rattle.bundle.proofs.examine.Reads as examine-reads
-use Rattle.normal_form.proofs.refused.Reads as refused-reads
-use Rattle.normal_form.proofs.sorted.Reads as sorted-reads
-use Rattle.normal_form.proofs.write_entries.Reads as write-entries-reads
 
--- src/lib.rt:234:9
 examine-requires : tie.Need-examine-requires
 examine-requires c κs = search needs
 
--- src/lib.rt:237:9
 refused-requires : tie.Need-refused-requires
 refused-requires c κs = search needs
 
--- src/lib.rt:237:9
 returns : tie.Need-returns
 returns c =
     let a = c .before .before .before .before .before .before .before .args in
     let x = c .before .before .examine .ensures in
     (c .refused .ensures ∙ refused-answer idRules idRules-lawful _ _ _ _ _ _ _ x (a .out .now) (c .before .if1 .taken), refused-bytes idRules idRules-lawful _ _ _ _ _ _ _ x (a .out .now) (c .before .if1 .taken))
 
--- src/lib.rt:240:9
-sorted-requires : tie.Need-sorted-requires
-sorted-requires c κs = few idRules idRules-lawful _ _ _ _ _ _ _ (c .before .before .before .before .before .examine .ensures) (omega (arith, c .before .before .before .before .if1 .left))
+order-of-requires : tie.Need-order-of-requires
+order-of-requires c κs = few idRules idRules-lawful _ _ _ _ _ _ _ (c .before .before .before .before .before .examine .ensures) (omega (arith, c .before .before .before .before .if1 .left))
 
--- src/lib.rt:242:5
 write-entries-requires : tie.Need-write-entries-requires
 write-entries-requires c κs =
-    let o = c .before .before .before .before .before .before .sorted .ensures in
+    let o = c .before .before .before .before .before .before .order-of .ensures in
     let x = c .before .before .before .before .before .before .before .before .before .before .before .before .examine .ensures in
     let z : c .before .before .before .before .before .before .before .before .before .before .before .before .examine .result .number ≡ 0 = omega (arith, c .before .before .before .before .before .before .before .before .before .before .before .if1 .left) in
     examined-placed idRules idRules-lawful _ _ _ _ _ _ _ x z (omega arith) _ (omega (arith, o .0, few idRules idRules-lawful _ _ _ _ _ _ _ x z)) (o .1)
 
--- src/lib.rt:225:1
 same-length : tie.Need-same-length
 same-length c = search needs
 
--- src/lib.rt:225:1
 returns-2 : tie.Need-returns-2
 returns-2 c =
     let a = c .before .before .before .before .before .before .before .before .before .before .before .before .before .before .before .before .before .before .before .before .args in
     let w = c .before .before .write-entries .ensures in
-    let o = c .before .before .before .before .before .before .before .before .before .sorted .ensures in
+    let o = c .before .before .before .before .before .before .before .before .before .order-of .ensures in
     let x = c .before .before .before .before .before .before .before .before .before .before .before .before .before .before .before .examine .ensures in
     let z : c .before .before .before .before .before .before .before .before .before .before .before .before .before .before .before .examine .result .number ≡ 0 = omega (arith, c .before .before .before .before .before .before .before .before .before .before .before .before .before .before .if1 .left) in
     let f = few idRules idRules-lawful _ _ _ _ _ _ _ x z in (
@@ -66,7 +52,7 @@ normalise-in-spec =
     examine-requires
     refused-requires
     returns
-    sorted-requires
+    order-of-requires
     write-entries-requires
     same-length
     returns-2)

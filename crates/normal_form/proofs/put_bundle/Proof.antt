@@ -1,8 +1,7 @@
 use native.Mathlib.Omega.{arith}
-use mathlib.Core.Path.{_≡_, refl, sym, ap, _∙_}
+use mathlib.Core.Path.{ap, _∙_}
 use mathlib.Core.List.{[]}
-use Prim.Native.Nat.{_+_}
-use lib.ListN.{length, getD}
+use lib.ListN.{getD}
 use Rattle.wire.specs.Bytes.{overwrite}
 use Rattle.wire.specs.Word.{bytesOf}
 use Rattle.bundle.specs.Lists.{tab}
@@ -13,26 +12,16 @@ use Rattle.normal_form.proofs.EncodeLaws.{end-order, length-order, put-
 use borrow.Author.Needs.{needs}
 use Rattle.normal_form.proofs.put_bundle.Statement.{statement}
 use Rattle.normal_form.proofs.put_bundle.Tie as tie
-use Rattle.normal_form.proofs.put_bundle.Reads as reads
-use Rattle.normal_form.proofs.put_bundle.Lts as lts
-use Rattle.normal_form.proofs.put_images.Reads as put-images-reads
-use Rattle.normal_form.proofs.put_table.Reads as put-table-reads
-use Rattle.wire.proofs.copy_at.Reads as copy-at-reads
-use Rattle.wire.proofs.put_word8.Reads as put-word8-reads
 
--- src/lib.rt:175:27
 slice-aggregate-copy-at : tie.Need-slice-aggregate-copy-at
 slice-aggregate-copy-at c = search needs
 
--- src/lib.rt:175:5
 copy-at-requires : tie.Need-copy-at-requires
 copy-at-requires c κs = search needs
 
--- src/lib.rt:176:5
 put-word8-requires : tie.Need-put-word8-requires
 put-word8-requires c κs = search needs
 
--- src/lib.rt:177:5
 put-table-requires : tie.Need-put-table-requires
 put-table-requires c κs =
     let a = c .before .before .before .before .before .before .before .before .before .before .before .before .before .before .args in
@@ -42,7 +31,6 @@ put-table-requires c κs =
     let e = end-order (a .src .now) (a .rows) (a .texts .now) (a .lens .now) (a .n) (a .order) p in
     ((p .filled .few, λ k h. p .filled .each (getD (a .order) k 0) (p .index k h) .low), (omega (arith, o, e, q .1), omega (arith, o, q .0, q .1)))
 
--- src/lib.rt:178:5
 put-images-requires : tie.Need-put-images-requires
 put-images-requires c κs =
     let a = c .before .before .before .before .before .before .before .before .before .before .before .before .before .before .before .before .before .before .args in
@@ -51,11 +39,9 @@ put-images-requires c κs =
     let o = length-order (a .src .now) (a .rows) (a .texts .now) (a .lens .now) (a .n) (a .order) p in
     ((p .filled .few, λ k h. let f = p .filled .each (getD (a .order) k 0) (p .index k h) in (f .low, f .inside)), omega (arith, o, q .0, q .1))
 
--- src/lib.rt:161:1
 same-length : tie.Need-same-length
 same-length c = search needs
 
--- src/lib.rt:161:1
 returns : tie.Need-returns
 unfolding magic
 returns c =

@@ -1,7 +1,7 @@
 use native.Mathlib.Omega.{arith}
 use mathlib.Core.Path.{_≡_, refl, ap, _∙_}
 use mathlib.Core.List.{[]}
-use Prim.Native.Nat.{ℕ, _≤_, _<_, _-_, _+_}
+use Prim.Native.Nat.{_≤_, _<_, _-_, _+_}
 use lib.ListN.{length, getD, take, drop}
 use borrow.Author.Needs.{needs}
 use Rattle.wire.specs.Bytes.{overwrite}
@@ -14,9 +14,6 @@ use Rattle.normal_form.proofs.SumLaws.{sum-none}
 use Rattle.normal_form.proofs.WriteLaws.{Writes, put-none, put-room, put-next, at-next, images-writes}
 use Rattle.normal_form.proofs.put_images.Statement.{statement}
 use Rattle.normal_form.proofs.put_images.Tie as tie
-use Rattle.normal_form.proofs.put_images.Reads as reads
-use Rattle.normal_form.proofs.put_images.Lts as lts
-use Rattle.wire.proofs.copy_at.Reads as copy-at-reads
 
 abbrev Inv-loop : tie.InvT-loop
 Inv-loop src n base out₀ rows order i₀ at₀ out i at = (i ≤ n) × (out ≡ overwrite out₀ base (images (inOrder src rows [] [] i order))) × (at ≡ base + total (sizeOf rows order) (upTo i)) × (length out ≡ length out₀)
@@ -37,63 +34,49 @@ here c = c .before .before .before .before .pre .0 .1 (c .before .loop .i) (omeg
 room : (c : tie.In-loop Inv-loop μ-loop) → let a = c .before .before .before .before .args in c .before .loop .at + sizeOf (a .t2) (a .t4) (c .before .loop .i) ≤ length (a .out .now)
 room c = let l = c .before .loop in put-room (writes (c .before .before .before .before)) (l .i) (l .at) (omega arith) (l .inv .2)
 
--- src/lib.rt:149:5
 loop-holds : tie.Need-loop-holds Inv-loop μ-loop
 loop-holds c = let a = c .before .before .args in (omega arith, put-none (writes (c .before .before)), omega (arith, sum-none (sizeOf (a .t2) (a .t4))), refl)
 
--- src/lib.rt:150:17
 mul-k : tie.Need-mul-k Inv-loop μ-loop
 mul-k c = omega arith
 
--- src/lib.rt:150:17
 array-read-k : tie.Need-array-read-k Inv-loop μ-loop
 array-read-k c = omega arith
 
--- src/lib.rt:151:17
 mul-r : tie.Need-mul-r Inv-loop μ-loop
 mul-r c = omega (arith, here c .0)
 
--- src/lib.rt:151:17
 array-copy-out-r : tie.Need-array-copy-out-r Inv-loop μ-loop
 array-copy-out-r c = here c .0
 
--- src/lib.rt:154:44
 add-copy-at : tie.Need-add-copy-at Inv-loop μ-loop
 unfolding recordAt
 add-copy-at c = omega (arith, here (c .before .before) .1)
 
--- src/lib.rt:154:32
 sub-copy-at : tie.Need-sub-copy-at Inv-loop μ-loop
 sub-copy-at c = omega arith
 
--- src/lib.rt:154:32
 part-copy-at-start : tie.Need-part-copy-at-start Inv-loop μ-loop
 unfolding recordAt
 part-copy-at-start c = omega (arith, here (c .before .before) .1)
 
--- src/lib.rt:154:32
 part-copy-at-end : tie.Need-part-copy-at-end Inv-loop μ-loop
 unfolding recordAt
 part-copy-at-end c = omega (arith, here (c .before .before) .1)
 
--- src/lib.rt:154:9
 copy-at-requires : tie.Need-copy-at-requires Inv-loop μ-loop
 copy-at-requires c κs = search needs
 
--- src/lib.rt:155:14
 add-at : tie.Need-add-at Inv-loop μ-loop
 unfolding recordAt
 add-at c = omega (arith, room (c .before .before .before .before .before .before))
 
--- src/lib.rt:156:9
 add-i : tie.Need-add-i Inv-loop μ-loop
 add-i c = omega arith
 
--- src/lib.rt:149:5
 loop-less : tie.Need-loop-less Inv-loop μ-loop
 loop-less c = omega arith
 
--- src/lib.rt:149:5
 loop-again : tie.Need-loop-again Inv-loop μ-loop
 unfolding recordAt entryAt imageOf rowOf
 loop-again c =
@@ -110,11 +93,9 @@ loop-again c =
       c .before .before .copy-at .kept .0 ∙ l .inv .3,
     )
 
--- src/lib.rt:135:1
 same-length : tie.Need-same-length Inv-loop μ-loop
 same-length c = c .before .loop .inv .3
 
--- src/lib.rt:135:1
 returns : tie.Need-returns Inv-loop μ-loop
 returns c =
     let a = c .before .before .before .before .args in

@@ -1,5 +1,5 @@
 use native.Mathlib.Omega.{arith}
-use mathlib.Core.Path.{_≡_, refl, ap, _∙_}
+use mathlib.Core.Path.{refl, ap, _∙_}
 use Prim.Native.Nat.{_+_}
 use lib.ListN.{length}
 use Rattle.wire.specs.Bytes.{overwrite}
@@ -8,44 +8,31 @@ use Rattle.normal_form.proofs.WriteLaws.{put-line}
 use borrow.Author.Needs.{needs}
 use Rattle.normal_form.proofs.put_row.Statement.{statement}
 use Rattle.normal_form.proofs.put_row.Tie as tie
-use Rattle.normal_form.proofs.put_row.Reads as reads
-use Rattle.normal_form.proofs.put_row.Lts as lts
-use Rattle.wire.proofs.copy_at.Reads as copy-at-reads
-use Rattle.wire.proofs.put_word8.Reads as put-word8-reads
 
--- src/lib.rt:99:5
 put-word8-requires : tie.Need-put-word8-requires
 put-word8-requires c κs = search needs
 
--- src/lib.rt:100:26
 add-put-word8 : tie.Need-add-put-word8
 add-put-word8 c = search needs
 
--- src/lib.rt:100:5
 put-word8-requires-2 : tie.Need-put-word8-requires-2
 put-word8-requires-2 c κs = search needs
 
--- src/lib.rt:101:26
 add-put-word8-2 : tie.Need-add-put-word8-2
 add-put-word8-2 c = search needs
 
--- src/lib.rt:101:5
 put-word8-requires-3 : tie.Need-put-word8-requires-3
 put-word8-requires-3 c κs = search needs
 
--- src/lib.rt:102:24
 add-copy-at : tie.Need-add-copy-at
 add-copy-at c = search needs
 
--- src/lib.rt:102:5
 copy-at-requires : tie.Need-copy-at-requires
 copy-at-requires c κs = search needs
 
--- src/lib.rt:95:1
 same-length : tie.Need-same-length
 same-length c = search needs
 
--- src/lib.rt:95:1
 returns : tie.Need-returns
 returns c =
     let a = c .before .before .before .before .before .before .before .before .before .before .before .before .before .before .before .before .before .before .args in

@@ -1,6 +1,6 @@
 use native.Mathlib.Omega.{arith}
 use mathlib.Core.Path.{_≡_, refl, ap, ap₂, _∙_}
-use Prim.Native.Nat.{ℕ, _≤_, _<_, _-_, _+_}
+use Prim.Native.Nat.{_≤_, _<_, _-_, _+_}
 use lib.ListN.{length, getD}
 use borrow.Author.Needs.{needs}
 use Rattle.wire.specs.Bytes.{overwrite}
@@ -13,10 +13,6 @@ use Rattle.normal_form.proofs.SumLaws.{sum-none, sum-next, sum-room}
 use Rattle.normal_form.proofs.WriteLaws.{Writes, put-none, put-room, put-next, at-next, table-writes}
 use Rattle.normal_form.proofs.put_table.Statement.{statement}
 use Rattle.normal_form.proofs.put_table.Tie as tie
-use Rattle.normal_form.proofs.put_table.Reads as reads
-use Rattle.normal_form.proofs.put_table.Lts as lts
-use Rattle.bundle.proofs.slot.Reads as slot-reads
-use Rattle.normal_form.proofs.put_row.Reads as put-row-reads
 
 abbrev Inv-loop : tie.InvT-loop
 Inv-loop texts lens n base out₀ rows order i₀ at₀ offset₀ out i at offset = (i ≤ n) × (out ≡ overwrite out₀ 32 (table (tab i (rowAfter rows texts lens order base))))
@@ -37,7 +33,6 @@ low c = c .before .before .before .before .before .pre .0 .1 (c .before .loop .i
 room : (c : tie.In-loop Inv-loop μ-loop) → let a = c .before .before .before .before .before .args in c .before .loop .at + (24 + length (idOf (a .texts .now) (a .lens .now) (a .t5) (c .before .loop .i))) ≤ length (a .out .now)
 room c = let l = c .before .loop in put-room (writes (c .before .before .before .before .before)) (l .i) (l .at) (omega arith) (l .inv .2)
 
--- src/lib.rt:122:5
 loop-holds : tie.Need-loop-holds Inv-loop μ-loop
 loop-holds c =
     let a = c .before .before .before .args in (
@@ -48,52 +43,40 @@ loop-holds c =
       refl,
     )
 
--- src/lib.rt:123:17
 mul-k : tie.Need-mul-k Inv-loop μ-loop
 mul-k c = omega arith
 
--- src/lib.rt:123:17
 array-read-k : tie.Need-array-read-k Inv-loop μ-loop
 array-read-k c = omega arith
 
--- src/lib.rt:124:17
 mul-r : tie.Need-mul-r Inv-loop μ-loop
 mul-r c = omega (arith, low c)
 
--- src/lib.rt:124:17
 array-copy-out-r : tie.Need-array-copy-out-r Inv-loop μ-loop
 array-copy-out-r c = low c
 
--- src/lib.rt:126:13
 slot-requires : tie.Need-slot-requires Inv-loop μ-loop
 slot-requires c κs = search needs
 
--- src/lib.rt:127:9
 put-row-requires : tie.Need-put-row-requires Inv-loop μ-loop
 put-row-requires c κs = omega (arith, room (c .before .before .before), ap length (c .before .slot .ensures), c .before .before .before .before .loop .inv .4)
 
--- src/lib.rt:128:20
 add-at : tie.Need-add-at Inv-loop μ-loop
 add-at c = omega (arith, room (c .before .before .before .before .before .before), ap length (c .before .before .before .before .slot .ensures))
 
--- src/lib.rt:128:14
 add-at-2 : tie.Need-add-at-2 Inv-loop μ-loop
 add-at-2 c = omega (arith, room (c .before .before .before .before .before .before), ap length (c .before .before .before .before .slot .ensures))
 
--- src/lib.rt:129:18
 add-offset : tie.Need-add-offset Inv-loop μ-loop
 unfolding recordAt
 add-offset c = let a = c .before .before .before .before .before .before .before .before .before .before .before .args in omega (arith, sum-room (sizeOf (a .t1) (a .t5)) (a .n) (c .before .before .before .before .before .before .before .loop .i) (omega arith), c .before .before .before .before .before .before .before .before .before .before .before .pre .1 .1)
 
--- src/lib.rt:130:9
 add-i : tie.Need-add-i Inv-loop μ-loop
 add-i c = omega arith
 
--- src/lib.rt:122:5
 loop-less : tie.Need-loop-less Inv-loop μ-loop
 loop-less c = omega arith
 
--- src/lib.rt:122:5
 loop-again : tie.Need-loop-again Inv-loop μ-loop
 unfolding rowAfter recordAt
 loop-again c =
@@ -110,11 +93,9 @@ loop-again c =
       c .before .before .put-row .kept .0 ∙ l .inv .4,
     )
 
--- src/lib.rt:106:1
 same-length : tie.Need-same-length Inv-loop μ-loop
 same-length c = c .before .loop .inv .4
 
--- src/lib.rt:106:1
 returns : tie.Need-returns Inv-loop μ-loop
 returns c =
     let a = c .before .before .before .before .before .args in

@@ -11,10 +11,6 @@ use Rattle.bundle.specs.Records.{text}
 use Rattle.normal_form.proofs.OrderLaws.{mid, mid-zero, mid-stop, mid-end, part-length, part-front, turn-next, turn-swap}
 use Rattle.normal_form.proofs.sift.Statement.{statement}
 use Rattle.normal_form.proofs.sift.Tie as tie
-use Rattle.normal_form.proofs.sift.Reads as reads
-use Rattle.normal_form.proofs.sift.Lts as lts
-use Rattle.bundle.proofs.slot.Reads as slot-reads
-use Rattle.wire.proofs.comes_before.Reads as comes-before-reads
 
 abbrev Inv-loop : tie.InvT-loop
 Inv-loop texts lens n order₀ i j₀ order j = (i ≤ j) × (j < n) × (length order ≡ length order₀)
@@ -34,7 +30,6 @@ tested c =
     let e = turn-next (a .i) (a .n) (l .j) (l .order) (a .order .now) (omega arith) (omega arith) (omega arith) (l .inv .3) in
     c .comes-before .ensures ∙ ap₂ before (c .before .before .slot .ensures) (c .before .slot2 .ensures ∙ ap (text (a .texts .now) (a .lens .now)) e)
 
--- src/lib.rt:20:5
 loop-holds : tie.Need-loop-holds Inv-loop μ-loop
 loop-holds c =
     let a = c .before .before .before .args in
@@ -47,63 +42,48 @@ loop-holds c =
       λ q h. absurd (omega arith),
     )
 
--- src/lib.rt:20:11
 add-loop : tie.Need-add-loop Inv-loop μ-loop
 add-loop c = omega arith
 
--- src/lib.rt:21:23
 add-k : tie.Need-add-k Inv-loop μ-loop
 add-k c = omega arith
 
--- src/lib.rt:21:17
 mul-k : tie.Need-mul-k Inv-loop μ-loop
 mul-k c = omega arith
 
--- src/lib.rt:21:17
 slice-read-k : tie.Need-slice-read-k Inv-loop μ-loop
 slice-read-k c = omega arith
 
--- src/lib.rt:22:13
 slot-requires : tie.Need-slot-requires Inv-loop μ-loop
 slot-requires c κs = search needs
 
--- src/lib.rt:23:13
 slot-requires-2 : tie.Need-slot-requires-2 Inv-loop μ-loop
 slot-requires-2 c κs = search needs
 
--- src/lib.rt:24:12
 comes-before-requires : tie.Need-comes-before-requires Inv-loop μ-loop
 comes-before-requires c κs = search needs
 
--- src/lib.rt:27:9
 mul-order : tie.Need-mul-order Inv-loop μ-loop
 mul-order c = omega arith
 
--- src/lib.rt:27:9
 slice-write-order : tie.Need-slice-write-order Inv-loop μ-loop
 slice-write-order c = omega arith
 
--- src/lib.rt:28:15
 add-order : tie.Need-add-order Inv-loop μ-loop
 add-order c = omega arith
 
--- src/lib.rt:28:9
 mul-order-2 : tie.Need-mul-order-2 Inv-loop μ-loop
 mul-order-2 c = omega arith
 
--- src/lib.rt:28:9
 slice-write-order-2 : tie.Need-slice-write-order-2 Inv-loop μ-loop
 slice-write-order-2 c = simp length-set (omega arith)
 
--- src/lib.rt:29:9
 add-j : tie.Need-add-j Inv-loop μ-loop
 add-j c = omega arith
 
--- src/lib.rt:20:5
 loop-less : tie.Need-loop-less Inv-loop μ-loop
 loop-less c = omega arith
 
--- src/lib.rt:20:5
 loop-again : tie.Need-loop-again Inv-loop μ-loop
 loop-again c =
     let l = c .before .before .before .before .before .before .loop in
@@ -116,11 +96,9 @@ loop-again c =
       rw z (below-more _ _ (l .inv .4) (sym (tested (c .before)) ∙ c .if1 .left)),
     )
 
--- src/lib.rt:15:1
 same-length : tie.Need-same-length Inv-loop μ-loop
 same-length c = c .before .loop .inv .2
 
--- src/lib.rt:15:1
 returns : tie.Need-returns Inv-loop μ-loop
 returns c =
     let l = c .before .loop in
@@ -128,11 +106,9 @@ returns c =
     let n = part-length (a .i + 1) (a .n) (a .order .now) (omega arith) in
     l .inv .3 ∙ mid-end (text (a .texts .now) (a .lens .now)) (a .i) (drop (a .i + 1) (take (a .n) (a .order .now))) (l .j - a .i) (omega (arith, n)) (l .inv .4) (omega (arith, n))
 
--- src/lib.rt:15:1
 same-length-2 : tie.Need-same-length-2 Inv-loop μ-loop
 same-length-2 c = c .before .before .before .before .before .before .loop .inv .2
 
--- src/lib.rt:15:1
 returns-2 : tie.Need-returns-2 Inv-loop μ-loop
 returns-2 c =
     let l = c .before .before .before .before .before .before .loop in

@@ -9,9 +9,6 @@ use Rattle.normal_form.specs.Code.{upTo}
 use Rattle.normal_form.proofs.OrderLaws.{sorted-none, sorted-next}
 use Rattle.normal_form.proofs.sorted.Statement.{statement}
 use Rattle.normal_form.proofs.sorted.Tie as tie
-use Rattle.normal_form.proofs.sorted.Reads as reads
-use Rattle.normal_form.proofs.sorted.Lts as lts
-use Rattle.normal_form.proofs.sift.Reads as sift-reads
 
 abbrev Inv-loop : tie.InvT-loop
 Inv-loop texts lens n order₀ i₀ order i = (i ≤ n) × (length order ≡ 64) × (drop i (take n order) ≡ sortBy (text texts lens) (drop i (upTo n)))
@@ -19,36 +16,28 @@ Inv-loop texts lens n order₀ i₀ order i = (i ≤ n) × (length order ≡ 64)
 abbrev μ-loop : tie.MeasureT-loop
 μ-loop texts lens n order₀ i₀ order i = i
 
--- src/lib.rt:40:5
 loop-holds : tie.Need-loop-holds Inv-loop μ-loop
 loop-holds c = let a = c .before .before .args in (omega arith, refl, sorted-none (text (a .texts .now) (a .lens .now)) (a .n) _ (omega arith))
 
--- src/lib.rt:41:9
 sub-i : tie.Need-sub-i Inv-loop μ-loop
 sub-i c = omega arith
 
--- src/lib.rt:42:9
 mul-order : tie.Need-mul-order Inv-loop μ-loop
 mul-order c = omega arith
 
--- src/lib.rt:42:9
 array-write-order : tie.Need-array-write-order Inv-loop μ-loop
 array-write-order c = omega arith
 
--- src/lib.rt:43:30
 slice-aggregate-sift : tie.Need-slice-aggregate-sift Inv-loop μ-loop
 slice-aggregate-sift c = simp length-set (omega arith)
 
--- src/lib.rt:43:9
 sift-requires : tie.Need-sift-requires Inv-loop μ-loop
 sift-requires c κs = let l = c .before .before .loop in
     (omega arith, simp length-set (omega arith), getD-set-same (l .order) (l .i - 1) (l .i - 1) 0 (omega arith))
 
--- src/lib.rt:40:5
 loop-less : tie.Need-loop-less Inv-loop μ-loop
 loop-less c = omega arith
 
--- src/lib.rt:40:5
 loop-again : tie.Need-loop-again Inv-loop μ-loop
 loop-again c =
     let l = c .before .before .before .before .loop in
@@ -56,7 +45,6 @@ loop-again c =
     let e : l .i - 1 + 1 ≡ l .i = omega arith in
     (omega arith, omega (arith, c .before .sift .kept .1 .1 .1 .0, length-set (l .order) (l .i - 1) (l .i - 1)), sorted-next (text (a .texts .now) (a .lens .now)) (a .n) (l .i - 1) (l .order) _ (omega arith) (omega arith) (rw e (l .inv .2)) (c .before .sift .ensures))
 
--- src/lib.rt:34:1
 returns : tie.Need-returns Inv-loop μ-loop
 returns c =
     let l = c .before .loop in

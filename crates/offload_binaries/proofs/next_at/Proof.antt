@@ -43,9 +43,9 @@ returns-4 c =
 
 add-next : tie.Need-add-next
 add-next c =
-    let p = c .before .before .before .before .before .before .before in
+    let p = c .before .before .before .before .before .before in
     let a = p .before .before .args in
-    let h = call-inside (a .s .now) (a .cursor) (p .if1 .left) (c .before .before .before .before .before .before .if2 .left) (c .before .before .before .before .before .if3 .left) (c .before .before .before .before .binary-at .result) (c .before .before .before .before .binary-at .ensures) (c .before .before .if4 .left) in
+    let h = call-inside (a .s .now) (a .cursor) (p .if1 .left) (c .before .before .before .before .before .if2 .left) (c .before .before .before .before .if3 .left) (c .before .before .before .binary-at .result) (c .before .before .before .binary-at .ensures) (c .before .if4 .left) in
     omega arith
 
 add-count : tie.Need-add-count
@@ -53,9 +53,9 @@ add-count c = search needs
 
 returns-5 : tie.Need-returns-5
 returns-5 c =
-    let p = c .before .before .before .before .before .before .before in
+    let p = c .before .before .before .before .before .before in
     let a = p .before .before .args in
-    call-good (a .s .now) (a .cursor) (p .if1 .left) (c .before .before .before .before .before .before .if2 .left) (c .before .before .before .before .before .if3 .left) (c .before .before .before .before .binary-at .result) (c .before .before .before .before .binary-at .ensures) (c .before .before .if4 .left)
+    call-good (a .s .now) (a .cursor) (p .if1 .left) (c .before .before .before .before .before .if2 .left) (c .before .before .before .before .if3 .left) (c .before .before .before .binary-at .result) (c .before .before .before .binary-at .ensures) (c .before .if4 .left)
 
 pub next-at-spec : {M : Type 1} → statement M
 next-at-spec =

@@ -1,4 +1,4 @@
--- `offload_binary_writer::pair_count` meets its contract: a walk of its MIR, by hand. A `&[StringPair]` is a struct of a pointer and a count, and the count is read. Nothing behind the slice is looked at.
+-- `offload_binary_list::pair_count` meets its contract: a walk of its MIR, by hand. A `&[StringPair]` is a struct of a pointer and a count, and the count is read. Nothing behind the slice is looked at.
 -- Assumes nothing.
 use mathlib.Core.Path.{refl}
 use Prim.Native.Nat.{ℕ, _<_, _^_}

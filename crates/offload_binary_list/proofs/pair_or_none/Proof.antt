@@ -1,4 +1,4 @@
--- `offload_binary_writer::pair_or_none` meets its contract: a walk of its MIR, by hand, with a branch. In the first arm the bound is the test's, and the record is read as in `pair_or_none`; in the second the pair of no bytes is made.
+-- `offload_binary_list::pair_or_none` meets its contract: a walk of its MIR, by hand, with a branch. In the first arm the bound is the test's, and the pair is read from the lent list; in the second the pair of no bytes is made.
 -- Each arm ends in `_5 = ..`, and what follows the branch, `_0 = _5; return`, is walked once for each arm: `exec` makes the goal at an arm's end a goal about that code again.
 -- Assumes nothing.
 use mathlib.Core.Path.{_≡_, refl, sym}
