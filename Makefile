@@ -83,8 +83,9 @@ damage: tool
 	target/make-damage 2000 target/damage samples/bundles/* samples/binaries/*
 	tests/damage.sh $(TOOL) target/damage $(LLVM)
 
-# The library's speed beside that of the second program, plain C, memcpy and LLVM's tools.
+# The library's speed beside that of the second program, plain C, memcpy, LLVM's tools and, with llvm-19-dev, LLVM's library.
 bench: tool
+	rt staticlib offload_binaries_bench >target/staticlib.out || { cat target/staticlib.out; exit 1; }
 	$(CARGO) build --release --offline --manifest-path bench/Cargo.toml
 	bench/target/release/bench $(TOOL) target/bench | tee target/bench.md
 

@@ -16,6 +16,9 @@ fn main() {
     println!("cargo:rerun-if-changed=baseline.h");
     println!("cargo:rustc-link-search=native={folder}");
     println!("cargo:rustc-link-lib=static=baseline");
+    println!("cargo:rustc-link-search=native=../target/staticlib");
+    println!("cargo:rustc-link-lib=static=offload_binaries_bench");
+    println!("cargo:rerun-if-changed=../target/staticlib/liboffload_binaries_bench.a");
     llvm(&folder);
 }
 

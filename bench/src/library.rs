@@ -4,6 +4,7 @@ extern "C" {
     fn offload_check_number(bundle: *const u8, bundle_length: usize) -> u64;
     fn offload_pick_number(bundle: *const u8, bundle_length: usize, device: *const u8, device_length: usize) -> u64;
     fn offload_normalise_length(bundle: *const u8, bundle_length: usize, out: *mut u8, out_length: usize) -> u64;
+    fn offload_binaries_next_size(binaries: *const u8, length: usize, position: usize, taken: usize) -> u64;
 }
 
 pub fn check(bundle: &[u8]) -> u64 {
@@ -19,4 +20,18 @@ pub fn pick(bundle: &[u8], device: &[u8]) -> u64 {
 pub fn normalise(bundle: &[u8], out: &mut [u8]) -> u64 {
     // SAFETY: the slices are as long as they say, and the output shares no byte with the bundle.
     unsafe { offload_normalise_length(bundle.as_ptr(), bundle.len(), out.as_mut_ptr(), out.len()) }
+}
+
+/// How many binaries there are before the first answer that is none.
+pub fn read_all(binaries: &[u8]) -> u64 {
+    let (mut position, mut taken) = (0, 0);
+    loop {
+        // SAFETY: the slice is as long as it says.
+        let size = unsafe { offload_binaries_next_size(binaries.as_ptr(), binaries.len(), position, taken) };
+        if size == 0 {
+            return taken as u64;
+        }
+        position += size as usize;
+        taken += 1;
+    }
 }
