@@ -28,7 +28,7 @@ static size_t one_entry(uint8_t *out, const char *id) {
 }
 
 int main(void) {
-    uint8_t bundle[512];
+    uint8_t bundle[512], normal[512], untouched[512];
     const char *id = "hip-amdgcn-amd-amdhsa-gfx906:xnack-";
     const uint8_t *same = (const uint8_t *)id, *other = (const uint8_t *)"hip-amdgcn-amd-amdhsa-gfx90a";
     size_t length = one_entry(bundle, id), name = strlen(id);
@@ -44,6 +44,18 @@ int main(void) {
     expect("pick_number of another card", offload_pick_number(bundle, length, other, 28), OFFLOAD_NONE);
     expect("pick_number of no name", offload_pick_number(bundle, length, other, 0), OFFLOAD_QUERY);
     expect("pick_size of no name", offload_pick_size(bundle, length, other, 0), 0);
+
+    /* The canonical ID has one dash more. */
+    memset(normal, 7, sizeof normal);
+    memset(untouched, 7, sizeof untouched);
+    expect("normalise_number without room", offload_normalise_number(bundle, length, normal, length), OFFLOAD_ROOM);
+    expect("normalise_place without room", offload_normalise_place(bundle, length, normal, length), 0);
+    expect("normalise_length without room", offload_normalise_length(bundle, length, normal, length), 0);
+    expect("the output after ROOM", (uint64_t)memcmp(normal, untouched, sizeof normal), 0);
+    expect("normalise_number", offload_normalise_number(bundle, length, normal, sizeof normal), OFFLOAD_OK);
+    expect("normalise_length", offload_normalise_length(bundle, length, normal, sizeof normal), length + 1);
+    expect("the output beyond the length", (uint64_t)memcmp(normal + length + 1, untouched, sizeof normal - length - 1), 0);
+    expect("check_count of the normal form", offload_check_count(normal, length + 1), 1);
 
     expect("a byte short", offload_check_number(bundle, length - 1), OFFLOAD_RANGE);
     expect("table cut", offload_check_number(bundle, 60), OFFLOAD_TABLE);
