@@ -1,4 +1,8 @@
 -- The spans of a text against the features that it means, and the rules as the code checks them. Assumes nothing.
+use Rattle.canonical_form.specs.declared.Form.{Form}
+use Rattle.canonical_form.specs.Made.{formOf}
+use Rattle.entry_id.proofs.CanonicalLaws.{head-canon}
+use Rattle.wire.specs.Word.{word}
 use Prim.Native.Nat.{ℕ, suc, _+_, _-_, _≤_, _<_}
 use mathlib.Core.Path.{_≡_, refl, sym, ap, _∙_, subst}
 use mathlib.Core.Logic.{inl, inr}
@@ -6,7 +10,7 @@ use mathlib.Core.Bool.{Bool, true, false, not, _&&_, _||_, cond}
 use mathlib.Core.List.{append-nil, List, [], _∷_, _++_, map}
 use native.Mathlib.Omega.{arith}
 use lib.ListN.{length, take, drop, length-append, length-map, length-drop, drop-of-length-le, replicate, length-replicate}
-use lib.Seq.{length-take-le, drop-cons}
+use lib.Seq.{length-take-le, drop-cons, take-at}
 use lib.Dec.{T, ltb, leb, le→leb, leb→le, ltb→lt}
 use borrow.Author.Tests.{lt-ltb, ltb-true, ltb-false}
 use Rattle.wire.proofs.SortLaws.{sort-every, sort-length}
@@ -21,7 +25,7 @@ use Rattle.entry_id.proofs.ReadBack.{parts, canon-is, canon-refused}
 use Rattle.entry_id.proofs.CompareLaws.{piece-feature, valid-signed}
 use Rattle.canonical_form.specs.Scan.{part, HeadAt, piecesAt}
 use Rattle.canonical_form.specs.Spans.{pieceOk, good, pieceAt, nameOf, chunkOf, chunks, Pieces, headText, PlanAt, PlanIs}
-use Rattle.entry_id.specs.Canonical.{canonicalIn}
+use Rattle.entry_id.specs.Canonical.{canonicalIn, headOf, headKey}
 use Rattle.canonical_form.specs.declared.features.Span.{Span}
 use Rattle.canonical_form.proofs.RunLaws.{part-cons, part-length}
 use Rattle.wire.specs.Bytes.{overwrite}
@@ -237,6 +241,10 @@ module _ (x : List ℕ) (at dashes stop : ℕ) (proc : Bool) (h : HeadAt x at da
       let b : T (leb (length (piecesAt x stop)) 8) = le→leb (length (piecesAt x stop)) 8 (omega (arith, valid-few x v, ap length (h .pieces-are))) in
       not-t e (and-t (every pieceOk (piecesAt x stop)) (leb (length (piecesAt x stop)) 8) a b))
 
+  pub head-is : joinWith 45 (sixFields (meaning x)) ≡ headText x at dashes stop
+  unfolding headText
+  head-is = h .form
+
   module _ (n : ℕ) (t : List Span) (pc : Pieces x stop n t) where
     pieces-spans : piecesOf x ≡ map (pieceAt x) (take n t)
     pieces-spans = h .pieces-are ∙ pc .are
@@ -359,6 +367,11 @@ canon-none n x e = ap (λ (l : List ℕ). cond (leb (length l) n) l []) (canon-r
     cond-same true = refl
     cond-same false = refl
 
+-- where there is no form
+pub no-form-is : (f : List ℕ) (r : Form) (o : List ℕ) → r ≡ formOf [] → f ≡ [] → (r ≡ formOf f) × (o ≡ f ++ drop (r .length) o)
+unfolding formOf
+no-form-is f r o e k = (e ∙ ap formOf (sym k), sym (ap (λ l. l ++ drop (r .length) o) k ∙ ap (λ n. drop n o) (ap (λ (z : Form). z .length) e)))
+
 module _ (x : List ℕ) (at dashes stop n : ℕ) (t : List Span) (p : PlanAt x at dashes stop n t) where
   canon-write : canon x ≡ canonicalOf (meaning x)
   canon-write = canon-is x (p .right)
@@ -382,6 +395,23 @@ module _ (x : List ℕ) (at dashes stop n : ℕ) (t : List Span) (p : PlanAt x a
 
     pub canon-length-is : length (canonicalIn (length o) x) ≡ stop + dashes + length (chunks x (take n t))
     canon-length-is = omega (arith, ap length canon-fits ∙ length-append (headText x at dashes stop) (chunks x (take n t)), plan-head)
+
+    -- the head written: it is the form's head
+    pub head-written : (u : List ℕ) (r : ℕ) → u ≡ overwrite o 0 (headText x at dashes stop) → r ≡ stop + dashes → take r u ≡ headText x at dashes stop
+    head-written u r e k =
+        let hd = headText x at dashes stop in
+        ap (take r) (e ∙ overwrite-in o 0 hd (omega (arith, plan-head, plan-length))) ∙ take-at hd (drop (0 + length hd) o) r (plan-head ∙ sym k)
+
+    canon-head : headOf (canonicalIn (length o) x) ≡ headText x at dashes stop
+    canon-head = ap headOf (canon-fits ∙ sym (canon-write ∙ p .text)) ∙ head-canon x (p .right) ∙ p .head
+
+    pub form-is : (len key : ℕ) → len ≡ stop + dashes + length (chunks x (take n t)) → key ≡ word 8 (headText x at dashes stop) (length (headText x at dashes stop) - 8)
+        → _≡_ {A = Form} (record { length = len; key = key }) (formOf (canonicalIn (length o) x))
+    unfolding formOf headKey
+    form-is len key e f =
+        let l : len ≡ length (canonicalIn (length o) x) = e ∙ sym canon-length-is in
+        let k : key ≡ word 8 (headOf (canonicalIn (length o) x)) (length (headOf (canonicalIn (length o) x)) - 8) = f ∙ ap (λ h. word 8 h (length h - 8)) (sym canon-head) in
+        λ i. record { length = l i; key = k i }
 
     -- both parts written
     pub canon-written : (u v : List ℕ) → u ≡ overwrite o 0 (headText x at dashes stop) → v ≡ overwrite u (stop + dashes) (chunks x (take n t))

@@ -1,2 +1,3 @@
+pub mod Made
 pub mod Scan
 pub mod Spans

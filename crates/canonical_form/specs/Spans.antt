@@ -6,9 +6,9 @@ use mathlib.Core.List.{List, [], _∷_, _++_, map}
 use lib.ListN.{length, getD, take, drop, replicate}
 use lib.Dec.{T, ltb, eqb, leb}
 use Rattle.wire.specs.Lists.{every}
-use Rattle.entry_id.specs.Text.{splitOn}
+use Rattle.entry_id.specs.Text.{splitOn, joinWith}
 use Rattle.wire.specs.Order.{insertBy}
-use Rattle.entry_id.specs.Meaning.{feature, nameByte, signed, named, valid, canonicalOf, meaning}
+use Rattle.entry_id.specs.Meaning.{sixFields, feature, nameByte, signed, named, valid, canonicalOf, meaning}
 use Rattle.canonical_form.specs.Scan.{part, endsAt, piecesAt}
 use Rattle.canonical_form.specs.declared.features.Span.{Span}
 
@@ -81,6 +81,7 @@ pub record PlanAt (x : List ℕ) (at dashes stop n : ℕ) (t : List Span) : Type
   pub few-dashes : dashes ≤ 2
   pub few : n ≤ 8
   pub size : length t ≡ 8
+  pub head : joinWith 45 (sixFields (meaning x)) ≡ headText x at dashes stop
   pub text : canonicalOf (meaning x) ≡ headText x at dashes stop ++ chunks x (take n t)
   pub long : length (canonicalOf (meaning x)) ≡ length x + dashes
 

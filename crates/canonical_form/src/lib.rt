@@ -8,25 +8,51 @@ mod scan;
 ghost use mathlib.Core.Path.{_≡_};
 ghost use Prim.Native.Nat.{_+_, _-_, _<_};
 ghost use mathlib.Core.Bool.{false};
-ghost use mathlib.Core.List.{_++_};
+ghost use mathlib.Core.List.{[], _++_};
 ghost use lib.ListN.{length, drop};
+ghost use Rattle.wire.specs.Word.{word};
+ghost use Rattle.canonical_form.specs.Made.{formOf};
 ghost use Rattle.entry_id.specs.Canonical.{canonicalIn, compatibleText, sameText, mixedText};
 
-// The canonical form of id at the start of out, and its length; 0 where id breaks the rules or the form does not fit, and out as it was.
-pub fn canonical(id: &[u8], out: &mut [u8]) -> usize
-    ensures { λ r. ⌜ (r ≡ length (canonicalIn (length (now (out .entry))) (now (id .entry)))) × (now (out .exit) ≡ canonicalIn (length (now (out .entry))) (now (id .entry)) ++ drop r (now (out .entry))) ⌝ }
+// A canonical form that was made: its length, and a number made from its head alone. Forms with equal heads have equal keys.
+pub struct Form {
+    pub length: usize,
+    pub key: u64,
+}
+
+// The last eight bytes of a head, as a word.
+fn last_word(head: &[u8]) -> u64
+    ensures { λ r. ⌜ r ≡ word 8 (now (head .entry)) (length (now (head .entry)) - 8) ⌝ }
+{
+    if head.len() < 8 {
+        return wire::word8_at(head, 0);
+    }
+    wire::word8_at(head, head.len() - 8)
+}
+
+fn no_form() -> Form
+    ensures { λ r. ⌜ r ≡ formOf [] ⌝ }
+{
+    Form { length: 0, key: 0 }
+}
+
+// The canonical form of id at the start of out; length 0 where id breaks the rules or the form does not fit, and out as it was.
+pub fn canonical(id: &[u8], out: &mut [u8]) -> Form
+    ensures { λ r. ⌜ (r ≡ formOf (canonicalIn (length (now (out .entry))) (now (id .entry)))) × (now (out .exit) ≡ canonicalIn (length (now (out .entry))) (now (id .entry)) ++ drop (r .length) (now (out .entry))) ⌝ }
 {
     let m = plan::read(id);
     if !m.ok {
-        return 0;
+        return no_form();
     }
     let dashes = m.dashes;
     if out.len() < id.len() + dashes {
-        return 0;
+        return no_form();
     }
     let p = plan::put_head(out, id, m.at, dashes, m.stop);
+    let key = last_word(&out[..p]);
     let spans = m.spans;
-    plan::put_pieces(out, p, id, spans, m.n)
+    let length = plan::put_pieces(out, p, id, spans, m.n);
+    Form { length, key }
 }
 
 // Whether an entry is compatible with a device, both in canonical form.

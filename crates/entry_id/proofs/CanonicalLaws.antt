@@ -22,7 +22,7 @@ module _ (x : List ℕ) (v : T (valid x)) where
   good : Proper (meaning x)
   good = parts (meaning x) (proper-meaning x v)
 
-  head-canon : headOf (canon x) ≡ joinWith (code "-") (sixFields (meaning x))
+  pub head-canon : headOf (canon x) ≡ joinWith (code "-") (sixFields (meaning x))
   unfolding headOf
   head-canon = ap (λ l. getD (splitOn 58 l) 0 []) (canon-is x v) ∙ head-write (meaning x) good
 

@@ -8,6 +8,7 @@ use lib.ListN.{length, getD, take}
 use lib.Dec.{leb}
 use Rattle.wire.specs.Lists.{agree, any, every}
 use Rattle.wire.specs.Bytes.{same}
+use Rattle.wire.specs.Word.{word}
 use Rattle.entry_id.specs.Text.{splitOn}
 use Rattle.entry_id.specs.Meaning.{piecesOf, canon}
 
@@ -18,6 +19,10 @@ canonicalIn room x = cond (leb (length (canon x)) room) (canon x) []
 -- the text before its first ':': of a canonical form kind, triple and processor
 unfoldable pub headOf : List ℕ → List ℕ
 headOf x = getD (splitOn (code ":") x) 0 []
+
+-- a number made from the head alone, so that texts with equal heads have equal ones: its last eight bytes as a word
+unfoldable pub headKey : List ℕ → ℕ
+headKey x = let h = headOf x in word 8 h (length h - 8)
 
 -- each piece of ps stands among qs
 unfoldable pub within : List (List ℕ) → List (List ℕ) → Bool

@@ -6,7 +6,7 @@ use lib.Dec.{T}
 use borrow.Author.Tests.{not-true, not-false}
 use Rattle.canonical_form.specs.Spans.{nameOf}
 use Rattle.wire.specs.Order.{risingBy}
-use Rattle.canonical_form.proofs.PlanLaws.{plan-no, long-refused, pieces-refused, length-refused, order-refused, proc-refused, text-is, plan-valid, long-is}
+use Rattle.canonical_form.proofs.PlanLaws.{plan-no, long-refused, pieces-refused, length-refused, order-refused, proc-refused, text-is, plan-valid, long-is, head-is}
 use native.Mathlib.Omega.{arith}
 use borrow.Author.Needs.{needs}
 use Rattle.canonical_form.proofs.plan.read.Statement.{statement}
@@ -126,6 +126,7 @@ returns-7 c =
         few-dashes = hd .few;
         few = pc .few;
         size = c .before .before .sorted .ensures .0;
+        head = head-is x (h .at) (h .dashes) (h .stop) (h .proc) hd;
         text = rw so (text-is x (h .at) (h .dashes) (h .stop) (h .proc) hd (p .n) (p .spans) pc);
         long = long-is x (h .at) (h .dashes) (h .stop) (h .proc) hd (p .n) (p .spans) pc sh (c .before .before .before .before .before .if4 .left) rs;
       };
