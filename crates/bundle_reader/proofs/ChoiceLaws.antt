@@ -15,14 +15,16 @@ use Rattle.bundle.specs.Check.{bundleStop}
 use Rattle.bundle.specs.Pick.{compatibleAt, pick}
 use Rattle.bundle.specs.Accepted.{Accepted}
 use Rattle.bundle.specs.Theorems.{refusal, Asked}
-use Rattle.bundle.specs.Records.{noRecord, recordAt, rowOf, rowsOf, text, Examination}
-use Rattle.bundle_reader.specs.Slots.{Texts}
+use Rattle.bundle.specs.Records.{noRecord, recordAt, rowOf, rowsOf}
+use Rattle.bundle_reader.specs.Examined.{text, formsOf}
+use Rattle.bundle_reader.specs.Slots.{Room, Formed, Texts, Examination}
 use Rattle.bundle.specs.declared.EntryRecord.{EntryRecord}
 use Rattle.bundle.specs.declared.Picked.{Picked}
 use Rattle.bundle.proofs.CheckLaws.{unrefused-go}
 use Rattle.bundle.proofs.AcceptLaws.{accepted}
 use Rattle.bundle.proofs.PickLaws.{pick-refused, pick-query, pick-none, pick-found}
-use Rattle.bundle_reader.proofs.SlotLaws.{held-texts}
+use Rattle.bundle_reader.proofs.SlotLaws.{formed-texts}
+use Rattle.bundle_reader.proofs.StageLaws.{all-formed}
 
 module _ (R : IdRules) (L : Lawful R) (s device texts lens : List ℕ) (number place n : ℕ) (rows : List EntryRecord) (x : Examination R s texts lens number place n rows) where
   number-is : bundleStop R s .number ≡ number
@@ -45,9 +47,10 @@ module _ (R : IdRules) (L : Lawful R) (s device texts lens : List ℕ) (number p
     pub few : n ≤ 64
     few = omega (arith, n-is, sound .frame .few)
 
-    pub texts-all : Texts R texts lens n
-    texts-all =
-        held-texts R L (row s) n texts lens (x .held z)
+    pub texts-all : (texts₀ lens₀ keys₀ keys : List ℕ) → (count s ≤ 64 → Room (count s) texts₀ lens₀ keys₀) → Formed R (row s) (formsOf R s) texts₀ lens₀ keys₀ texts lens keys → Texts R texts lens keys n
+    texts-all texts₀ lens₀ keys₀ keys room f =
+        let m : formsOf R s ≡ n = all-formed R s (number-is ∙ z) ∙ sym n-is in
+        formed-texts R L (row s) n texts₀ lens₀ keys₀ texts lens keys (rw n-is (room (sound .frame .few))) (rw m at f)
         (λ k h. sound .sense .meant .named k (omega (arith, n-is)))
 
     pub picked-query : empty (R .canon device) ≡ true → refusal 9 0 ≡ pick R s device

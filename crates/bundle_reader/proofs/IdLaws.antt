@@ -1,26 +1,42 @@
 -- The entry_id functions on what the code holds: room of 256 bytes, and canonical forms. Assumes nothing.
-use Prim.Native.Nat.{ℕ, _+_, _*_, _≤_}
+use Prim.Native.Nat.{ℕ, _+_, _*_, _<_, _≤_}
 use native.Mathlib.Omega.{arith}
 use mathlib.Core.Path.{_≡_, refl, sym, ap, ap₂, _∙_}
 use mathlib.Core.List.{List, _++_}
-use lib.ListN.{length, take, drop, length-drop}
+use lib.Dec.{eqb}
+use lib.ListN.{length, getD, take, drop, length-drop}
 use lib.Seq.{length-take-le, take-at}
-use mathlib.Core.Bool.{true, false}
+use mathlib.Core.Bool.{Bool, true, false}
+use borrow.Author.Tests.{eqb-false}
+use Rattle.wire.specs.First.{first}
+use Rattle.wire.proofs.FirstLaws.{first-le, first-before}
+use Rattle.wire.proofs.Bools.{byBool}
+use Rattle.entry_id.proofs.KeyLaws.{key-same, key-mixed, key-compatible}
+use Rattle.canonical_form.specs.Made.{formOf}
+use Rattle.canonical_form.specs.declared.Form.{Form}
+use Rattle.bundle_reader.specs.Examined.{text}
 use Rattle.wire.specs.Bytes.{empty, overwrite}
-use Rattle.entry_id.specs.Canonical.{canonicalIn, sameText, mixedText, compatibleText}
+use Rattle.entry_id.specs.Canonical.{headKey, canonicalIn, sameText, mixedText, compatibleText}
 use Rattle.entry_id.specs.Rules.{idRules}
 use Rattle.entry_id.proofs.RuleLaws.{idRules-lawful, canonical-whole, same-rules, mixed-rules, compatible-rules}
-use Rattle.bundle_reader.specs.Slots.{Canonical}
+use Rattle.bundle_reader.specs.Slots.{Canonical, Texts, near, relation}
 use Rattle.bundle_reader.proofs.SlotLaws.{length-empty, length-some, slot-written}
 
 -- what `canonical` leaves of an ID x in the room that it was lent
-pub record Made (x before after : List ℕ) (n : ℕ) : Type 0 where
-  pub size : n ≡ length (canonicalIn (length before) x)
-  pub text : after ≡ canonicalIn (length before) x ++ drop n before
+pub record Made (x before after : List ℕ) (made : Form) : Type 0 where
+  pub form-is : made ≡ formOf (canonicalIn (length before) x)
+  pub text : after ≡ canonicalIn (length before) x ++ drop (made .length) before
 
-module _ (x before after : List ℕ) (n : ℕ) (room : length before ≡ 256) (m : Made x before after n) where
-  pub made-size : n ≡ length (idRules .canon x)
-  made-size = m .size ∙ ap length (canonical-whole (length before) x (omega arith))
+module _ (x before after : List ℕ) (made : Form) (room : length before ≡ 256) (m : Made x before after made) where
+  abbrev n : ℕ
+  n = made .length
+
+  pub made-form : made ≡ formOf (idRules .canon x)
+  made-form = m .form-is ∙ ap formOf (canonical-whole (length before) x (omega arith))
+
+  made-size : n ≡ length (idRules .canon x)
+  unfolding formOf
+  made-size = ap (λ (z : Form). z .length) made-form
 
   pub made-text : after ≡ idRules .canon x ++ drop (length (idRules .canon x)) before
   made-text = m .text ∙ ap₂ (λ z k. z ++ drop k before) (canonical-whole (length before) x (omega arith)) made-size
@@ -28,6 +44,10 @@ module _ (x before after : List ℕ) (n : ℕ) (room : length before ≡ 256) (m
   -- the canonical form, at the start of the room
   pub name-is : take n after ≡ idRules .canon x
   name-is = ap₂ take made-size made-text ∙ take-at (idRules .canon x) _ _ refl
+
+  pub name-key : made .key ≡ headKey (take n after)
+  unfolding formOf
+  name-key = ap (λ (z : Form). z .key) made-form ∙ ap headKey (sym name-is)
 
   module _ (kept : length after ≡ length before) where
     pub name-fits : n ≤ length after
@@ -47,17 +67,17 @@ module _ (x before after : List ℕ) (n : ℕ) (room : length before ≡ 256) (m
     name-canonical = rw name-is (record { again = idRules-lawful .canon-again x; some = name-some })
 
 -- to slot i of the texts, from the ID's part of s: the parts' lengths as the code has them
-pub made-slot : (s texts last : List ℕ) (start len w i q n : ℕ) → w ≡ len → q ≡ 256 → i * 256 + 256 ≤ length texts
-    → Made (take w (drop start s)) (take q (drop (i * 256) texts)) last n
-    → (n ≡ length (idRules .canon (take len (drop start s)))) × (take (i * 256) texts ++ (last ++ drop q (drop (i * 256) texts)) ≡ overwrite texts (i * 256) (idRules .canon (take len (drop start s))))
-made-slot s texts last start len w i q n e f room m =
+pub made-slot : (s texts last : List ℕ) (start len w i q : ℕ) (made : Form) → w ≡ len → q ≡ 256 → i * 256 + 256 ≤ length texts
+    → Made (take w (drop start s)) (take q (drop (i * 256) texts)) last made
+    → (made ≡ formOf (idRules .canon (take len (drop start s)))) × (take (i * 256) texts ++ (last ++ drop q (drop (i * 256) texts)) ≡ overwrite texts (i * 256) (idRules .canon (take len (drop start s))))
+made-slot s texts last start len w i q made e f room m =
     let x = take len (drop start s) in
     let d = drop (i * 256) texts in
-    let k : Made x (take 256 d) last n = rw (e, f) at m in
+    let k : Made x (take 256 d) last made = rw (e, f) at m in
     let l : length (take 256 d) ≡ 256 = length-take-le 256 d (omega (arith, length-drop (i * 256) texts)) in
     rw f (
-      made-size x (take 256 d) last n l k,
-      ap (λ z. take (i * 256) texts ++ (z ++ drop 256 d)) (made-text x (take 256 d) last n l k) ∙ slot-written texts (idRules .canon x) (i * 256) (idRules-lawful .canon-short x) room,
+      made-form x (take 256 d) last made l k,
+      ap (λ z. take (i * 256) texts ++ (z ++ drop 256 d)) (made-text x (take 256 d) last made l k) ∙ slot-written texts (idRules .canon x) (i * 256) (idRules-lawful .canon-short x) room,
     )
 
 -- ---- the tests on canonical forms, through equal texts
@@ -74,3 +94,28 @@ module _ (a b x y : List ℕ) (p : a ≡ x) (q : b ≡ y) (m : Canonical idRules
   pub compatible-is : compatibleText a b ≡ idRules .compatible x y
   unfolding idRules
   compatible-is = ap₂ compatibleText p q ∙ compatible-rules x y (m .again) (m .some) (n .again) (n .some)
+
+-- ---- canonical forms whose heads have different numbers
+
+module _ (a b : List ℕ) (m : Canonical idRules a) (n : Canonical idRules b) (apart : headKey a ≡ headKey b → ⊥) where
+  pub unrelated : (twice : Bool) → relation idRules twice a b ≡ false
+  unrelated true = byBool (idRules .sameMeaning a b) (λ t. absurd (apart (key-same a b (same-is a b a b refl refl m n ∙ t)))) (λ f. f)
+  unrelated false = byBool (idRules .mixed a b) (λ t. absurd (apart (key-mixed a b (mixed-is a b a b refl refl m n ∙ t)))) (λ f. f)
+
+  pub incompatible : idRules .compatible a b ≡ false
+  incompatible = byBool (idRules .compatible a b) (λ t. absurd (apart (key-compatible a b (compatible-is a b a b refl refl m n ∙ t)))) (λ f. f)
+
+pub near-le : (keys : List ℕ) (i : ℕ) → near keys i ≤ i
+unfolding near
+near-le keys i = first-le i (λ j. eqb (getD keys j 0) (getD keys i 0))
+
+-- no slot before the first with the number of slot i stands in a relation to it
+pub unrelated-before : (twice : Bool) (texts lens keys : List ℕ) (i : ℕ) → Texts idRules texts lens keys (i + 1) → (k : ℕ) → k < near keys i
+    → relation idRules twice (text texts lens k) (text texts lens i) ≡ false
+unfolding near
+unrelated-before twice texts lens keys i t k h =
+    let l : k < i = omega (arith, near-le keys i) in
+    let p = t .each k (omega arith) in
+    let q = t .each i (omega arith) in
+    unrelated (text texts lens k) (text texts lens i) (p .canonical) (q .canonical)
+    (λ e. eqb-false _ _ (first-before i (λ j. eqb (getD keys j 0) (getD keys i 0)) k h) (p .key ∙ e ∙ sym (q .key))) twice

@@ -2,22 +2,27 @@
 use Prim.Native.Nat.{ℕ, _+_, _<_, _≤_}
 use native.Mathlib.Omega.{arith}
 use mathlib.Core.Logic.{_↔_}
-use mathlib.Core.Path.{_≡_, refl, sym, _∙_}
-use mathlib.Core.Bool.{true, false}
+use mathlib.Core.Path.{_≡_, refl, sym, ap, _∙_}
+use mathlib.Core.Bool.{Bool, true, false}
 use mathlib.Core.List.{List}
+use lib.Dec.{ltb}
 use lib.ListN.{length}
-use borrow.Author.Tests.{leb-true, le-leb, lt-ltb, le-ltb}
+use borrow.Author.Tests.{leb-true, le-leb, lt-ltb, le-ltb, ltb-false}
 use Rattle.wire.specs.First.{first}
 use Rattle.wire.specs.Stop.{Stop, stop, _⨾_, stopIf, stopWhen, stopAt}
 use Rattle.wire.proofs.Bools.{byBool, and-both, both-and, not-no, yes-not}
-use Rattle.wire.proofs.FirstLaws.{first-before}
-use Rattle.wire.proofs.StopLaws.{⨾-go}
-use Rattle.entry_id.specs.IdRules.{IdRules}
-use Rattle.bundle.specs.Check.{rowsStop}
-use Rattle.bundle.specs.Records.{recordAt, rowsOf, badPart, recordsStop, Judged}
-use Rattle.bundle_reader.specs.Slots.{IdsIn}
+use Rattle.wire.proofs.FirstLaws.{first-before, first-none}
+use Rattle.wire.proofs.StopLaws.{⨾-go, ⨾-next, ⨾-left, ⨾-right, stopIf-no, stopAt-no, stopAt-found, stopAt-clear}
+use Rattle.entry_id.specs.IdRules.{IdRules, Lawful}
+use Rattle.bundle.specs.Check.{badId, rowsStop}
+use Rattle.bundle.specs.Records.{recordAt, rowsOf, badPart, recordsStop}
+use Rattle.bundle_reader.specs.Slots.{IdsIn, Judged}
+use Rattle.bundle_reader.specs.Examined.{filled, slots, form, formLength, made, examinedRecords, formsOfRecords}
+use Rattle.bundle_reader.specs.declared.Refusal.{Refusal}
+use Rattle.bundle.proofs.CheckLaws.{unrefused-go, unrefused-stop}
 use Rattle.bundle.specs.declared.EntryRecord.{EntryRecord}
-use Rattle.bundle_reader.proofs.StageLaws.{found-at, past, judged}
+use Rattle.bundle_reader.proofs.StageLaws.{found-at, past}
+use Rattle.bundle_reader.proofs.SlotLaws.{held}
 
 -- an ID part of 1 to 256 bytes lies in its buffer
 pub record PartFits (room : ℕ) (r : EntryRecord) : Type 0 where
@@ -42,25 +47,75 @@ pub stop-many : (R : IdRules) (ids : List ℕ) (len n : ℕ) (rows : List EntryR
 unfolding recordsStop stopIf stopWhen _⨾_
 stop-many R ids len n rows h = rw (lt-ltb 64 n h)
 
-module _ (R : IdRules) (ids : List ℕ) (len n : ℕ) (rows : List EntryRecord) (texts lens : List ℕ) where
-  abbrev Answer : ℕ → ℕ → Type 0
-  Answer k i = Judged R (recordsStop R ids len n rows) (rowsOf ids rows) n texts lens k i
+module _ (R : IdRules) (ids : List ℕ) (len n : ℕ) (rows : List EntryRecord) where
+  answer : (number place : ℕ) → stop number place ≡ recordsStop R ids len n rows → _≡_ {A = Refusal} (record { number = number; place = place }) (examinedRecords R ids len n rows)
+  unfolding examinedRecords
+  answer number place e = ap (λ (t : Stop). record { number = t .number; place = t .place }) e
 
-  pub records-many : 64 < n → Answer 3 0
-  records-many h = judged R (rowsOf ids rows) n texts lens 2 0 _ (sym (stop-many R ids len n rows h))
+  pub records-many : 64 < n → _≡_ {A = Refusal} (record { number = 3; place = 0 }) (examinedRecords R ids len n rows)
+  records-many h = answer 3 0 (sym (stop-many R ids len n rows h))
+
+  pub many-forms : 64 < n → formsOfRecords R ids n rows ≡ 0
+  unfolding formsOfRecords made stopIf stopWhen _⨾_
+  many-forms h = rw (lt-ltb 64 n h) (unrefused-stop (stop 3 0) _ 2 refl)
 
   module _ (few : n ≤ 64) (bad : ℕ) (e : bad ≡ first n (λ i. badPart (length ids) (recordAt rows i))) where
-    past-3 : (t : Stop) → t ≡ stopAt 4 n (λ i. badPart (length ids) (recordAt rows i)) ⨾ rowsStop R 0 len n (rowsOf ids rows) → t ≡ recordsStop R ids len n rows
-    unfolding recordsStop stopIf stopWhen
-    past-3 t q = rw (le-ltb 64 n few) (q ∙ sym (⨾-go _))
+    past-3 : (t rest : Stop) → t ≡ stopAt 4 n (λ i. badPart (length ids) (recordAt rows i)) ⨾ rest → t ≡ stopIf 3 (ltb 64 n) ⨾ stopAt 4 n (λ i. badPart (length ids) (recordAt rows i)) ⨾ rest
+    unfolding stopIf stopWhen
+    past-3 t rest q = rw (le-ltb 64 n few) (q ∙ sym (⨾-go _))
 
-    pub records-part : bad < n → Answer 4 bad
-    records-part h = judged R (rowsOf ids rows) n texts lens 3 bad _ (past-3 _ (found-at 3 n _ bad _ e h))
+    parts : stopIf 3 (ltb 64 n) ⨾ stopAt 4 n (λ i. badPart (length ids) (recordAt rows i)) ≡ stopAt 4 n (λ i. badPart (length ids) (recordAt rows i))
+    unfolding stopIf stopWhen
+    parts = rw (le-ltb 64 n few) (⨾-go _)
+
+    pub records-part : bad < n → _≡_ {A = Refusal} (record { number = 4; place = bad }) (examinedRecords R ids len n rows)
+    unfolding recordsStop
+    records-part h = answer 4 bad (past-3 _ _ (found-at 3 n _ bad _ e h))
+
+    pub part-forms : bad < n → formsOfRecords R ids n rows ≡ 0
+    unfolding formsOfRecords made
+    part-forms h = unrefused-stop _ _ 3 (ap (λ t. t .number) (parts ∙ stopAt-found 4 n _ bad e h))
 
     module _ (none : n ≤ bad) where
       pub records-in : IdsIn ids n rows
       unfolding recordAt
       records-in = record { few = few; inside = λ k h. partFits (length ids) (recordAt rows k) .0 (first-before n (λ i. badPart (length ids) (recordAt rows i)) k (omega (arith, e))) .inside }
 
-      pub records-rest : (number place : ℕ) → Judged R (rowsStop R 0 len n (rowsOf ids rows)) (rowsOf ids rows) n texts lens number place → Answer number place
-      records-rest number place j = record { stop-is = j .stop-is ∙ past-3 _ (past 4 n _ bad _ _ e none refl); held = j .held }
+      pub records-rest : (number place : ℕ) → stop number place ≡ rowsStop R 0 len n (rowsOf ids rows) → _≡_ {A = Refusal} (record { number = number; place = place }) (examinedRecords R ids len n rows)
+      unfolding recordsStop
+      records-rest number place q = answer number place (past-3 _ _ (q ∙ past 4 n _ bad _ _ e none refl))
+
+      pub rest-forms : formsOfRecords R ids n rows ≡ first n (λ i. badId R (rowsOf ids rows i))
+      unfolding formsOfRecords made
+      rest-forms = unrefused-go _ _ (ap (λ t. t .number) (parts ∙ stopAt-clear 4 n _ bad e none))
+
+-- of records that nothing refuses every form is made
+all-made : (R : IdRules) (ids : List ℕ) (len n : ℕ) (rows : List EntryRecord) → recordsStop R ids len n rows .number ≡ 0 → (n ≤ 64) × (formsOfRecords R ids n rows ≡ n)
+unfolding recordsStop formsOfRecords made rowsStop
+all-made R ids len n rows y =
+    let rest = ⨾-right (stopIf 3 (ltb 64 n)) _ y in
+    let three = ⨾-left (stopIf 3 (ltb 64 n)) _ y in
+    let p : ℕ → Bool = λ i. badPart (length ids) (recordAt rows i) in
+    let four = ⨾-left (stopAt 4 n p) _ rest in
+    let five = ⨾-left (stopAt 5 n (λ i. badId R (rowsOf ids rows i))) _ (⨾-right (stopAt 4 n p) _ rest) in (
+      omega (arith, ltb-false 64 n (stopIf-no 2 (ltb 64 n) three)),
+      unrefused-go _ _ (ap (λ t. t .number) (⨾-next (stopIf 3 (ltb 64 n)) (stopAt 4 n p) three) ∙ four)
+          ∙ first-none n (λ i. badId R (rowsOf ids rows i)) (stopAt-no 4 n _ five),
+    )
+
+-- what examining records leaves
+pub judged-records : (R : IdRules) → Lawful R → (ids : List ℕ) (len n : ℕ) (rows : List EntryRecord) (texts₀ lens₀ texts lens : List ℕ) (r : Refusal)
+    → r ≡ examinedRecords R ids len n rows
+    → texts ≡ slots texts₀ (formsOfRecords R ids n rows) (form R (rowsOf ids rows)) → lens ≡ filled lens₀ (formsOfRecords R ids n rows) (formLength R (rowsOf ids rows))
+    → length texts₀ ≡ 16384 → length lens₀ ≡ 64
+    → Judged R (recordsStop R ids len n rows) (rowsOf ids rows) n texts lens (r .number) (r .place)
+unfolding examinedRecords
+judged-records R L ids len n rows texts₀ lens₀ texts lens r e te le a b =
+    let q : stop (r .number) (r .place) ≡ recordsStop R ids len n rows = ap (λ (z : Refusal). stop (z .number) (z .place)) e in
+    record {
+      stop-is = q;
+      held = λ z k h.
+          let y : recordsStop R ids len n rows .number ≡ 0 = ap (λ t. t .number) (sym q) ∙ z in
+          let (few, m) = all-made R ids len n rows y in
+          held R L (rowsOf ids rows) _ texts₀ lens₀ texts lens (omega (arith, m, a)) (omega (arith, m, b)) te le k (omega (arith, m));
+    }

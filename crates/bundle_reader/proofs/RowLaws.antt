@@ -2,18 +2,19 @@
 use Prim.Native.Nat.{ℕ, _+_, _<_, _≤_}
 use native.Mathlib.Omega.{arith}
 use native.Mathlib.Numerals.{add-one}
-use mathlib.Core.Path.{_≡_, sym, ap, _∙_}
+use mathlib.Core.Path.{_≡_, sym, ap, ap₂, _∙_}
 use mathlib.Core.Bool.{Bool, true, false}
 use mathlib.Core.List.{List}
 use borrow.Author.Count.{below-more}
-use lib.ListN.{length, getD, set, length-set}
-use lib.Seq.{getD-set-same, getD-set-other}
+use lib.ListN.{length, getD, set, replicate, length-replicate}
 use Rattle.wire.proofs.FirstLaws.{first-le, first-is, first-none}
 use Rattle.bundle.specs.Table.{rowStart, row, rowAt}
 use Rattle.bundle.specs.Check.{badRow}
 use Rattle.bundle.specs.Accepted.{RowFits}
 use Rattle.bundle.specs.Records.{noRecord, recordAt, rowOf, rowsOf}
-use Rattle.bundle_reader.specs.Slots.{heldRow, Rows, Tabled, IdsIn}
+use Rattle.bundle_reader.specs.Examined.{filled, heldRow, rowsIn}
+use Rattle.bundle_reader.specs.Slots.{Rows, Tabled, IdsIn}
+use Rattle.bundle_reader.proofs.SlotLaws.{filled-at, filled-next}
 use Rattle.bundle.specs.declared.EntryRecord.{EntryRecord}
 use Rattle.bundle.proofs.CheckLaws.{rowFits}
 
@@ -34,13 +35,11 @@ module _ (s : List ℕ) (i at : ℕ) (rows : List EntryRecord) (e : at ≡ rowSt
     row-next = ap (λ z. z .«id_start» + z .«id_len») (q ∙ ap (heldRow s) e) ∙ rw add-one
 
     pub rows-more : i < 64 → RowFits s at → Rows s (i + 1) (set rows i r)
+    unfolding rowsIn
     rows-more h f = record {
       few = omega arith;
-      room = simp length-set (p .room);
       fits = below-more _ i (p .fits) (rw e at f);
-      each = below-more _ i
-          (λ k l. getD-set-other rows i k r noRecord (λ (z : k ≡ i). omega arith) ∙ p .each k l)
-          (getD-set-same rows i r noRecord (omega (arith, p .room)) ∙ q ∙ ap (heldRow s) e);
+      are = ap₂ (λ z x. set z i x) (p .are) (q ∙ ap (heldRow s) e) ∙ sym (filled-next (replicate 64 noRecord) i (λ k. heldRow s (rowStart s k)));
     }
 
   passed : (k : ℕ) → k < i → badRow s (rowStart s k) ≡ false
@@ -66,9 +65,13 @@ module _ (s : List ℕ) (i at : ℕ) (rows : List EntryRecord) (e : at ≡ rowSt
 pub rows-all : (s : List ℕ) (n : ℕ) (rows : List EntryRecord) (bad end : ℕ) → Tabled s n rows bad end → n ≤ bad → Rows s n rows
 rows-all s n rows bad end t h = let e : bad ≡ n = omega (arith, t .bad-is, first-le n (λ i. badRow s (rowStart s i))) in rw e at (t .rows-are)
 
+row-held : (s : List ℕ) (n : ℕ) (rows : List EntryRecord) → Rows s n rows → (k : ℕ) → k < n → getD rows k noRecord ≡ heldRow s (rowStart s k)
+unfolding rowsIn
+row-held s n rows r k h = ap (λ z. getD z k noRecord) (r .are) ∙ filled-at (replicate 64 noRecord) n (λ k. heldRow s (rowStart s k)) noRecord (omega (arith, r .few, length-replicate 64 noRecord)) k h
+
 pub ids-in : (s : List ℕ) (n : ℕ) (rows : List EntryRecord) → Rows s n rows → IdsIn s n rows
-ids-in s n rows r = record { few = r .few; inside = λ k h. row-inside s (rowStart s k) (getD rows k noRecord) (r .each k h) (r .fits k h) }
+ids-in s n rows r = record { few = r .few; inside = λ k h. row-inside s (rowStart s k) (getD rows k noRecord) (row-held s n rows r k h) (r .fits k h) }
 
 pub rows-are : (s : List ℕ) (n : ℕ) (rows : List EntryRecord) → Rows s n rows → (k : ℕ) → k < n → rowsOf s rows k ≡ row s k
 unfolding rowsOf recordAt rowOf heldRow row rowAt
-rows-are s n rows r k h = ap (rowOf s) (r .each k h)
+rows-are s n rows r k h = ap (rowOf s) (row-held s n rows r k h)

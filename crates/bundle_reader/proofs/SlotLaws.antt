@@ -1,23 +1,27 @@
 -- Laws of canonical IDs in slots of 256 bytes. Assumes nothing.
-use Prim.Native.Nat.{ℕ, _+_, _*_, _≤_, _<_}
+use Prim.Native.Nat.{ℕ, zero, suc, _+_, _*_, _≤_, _<_}
 use native.Mathlib.Omega.{arith}
-use mathlib.Core.Path.{_≡_, refl, sym, ap, ap₂, _∙_}
+use native.Mathlib.Numerals.{add-one}
+use mathlib.Core.Path.{_≡_, refl, sym, ap, ap₂, _∙_, subst}
 use mathlib.Core.Bool.{Bool, true, false}
 use mathlib.Core.List.{List, [], _∷_, _++_, append-assoc}
 use borrow.Author.Count.{below-more}
 use borrow.Author.Tests.{lt-ltb, le-ltb}
-use lib.ListN.{length, getD, take, drop, set, take-append-drop, length-drop}
+use lib.ListN.{length, getD, take, drop, set, take-append-drop, length-drop, length-set}
 use lib.Seq.{drop-drop, drop-append-le, take-append-le, drop-at, take-at, length-take-le, getD-set-same, getD-set-other}
 use Rattle.wire.specs.Bytes.{empty, overwrite}
 use Rattle.wire.specs.First.{first, anyBelow}
 use Rattle.wire.specs.Stop.{earlier}
-use Rattle.wire.proofs.FirstLaws.{first-before}
-use Rattle.wire.proofs.OverwriteLaws.{overwrite-in}
+use Rattle.wire.proofs.FirstLaws.{first-le, first-before}
+use Rattle.wire.proofs.OverwriteLaws.{overwrite-in, overwrite-nil, length-overwrite}
 use Rattle.entry_id.specs.IdRules.{IdRules, Lawful}
 use Rattle.bundle.specs.Table.{Row}
 use Rattle.bundle.specs.Check.{badId}
-use Rattle.bundle.specs.Records.{text, Held}
-use Rattle.bundle_reader.specs.Slots.{Texts, Named, Room}
+use Rattle.entry_id.specs.Canonical.{headKey}
+use Rattle.canonical_form.specs.Made.{formOf}
+use Rattle.canonical_form.specs.declared.Form.{Form}
+use Rattle.bundle_reader.specs.Examined.{filled, slots, text, form, formLength}
+use Rattle.bundle_reader.specs.Slots.{Held, Texts, Room, Formed}
 
 pub length-empty : (l : List ℕ) → length l ≡ 0 → empty l ≡ true
 unfolding empty
@@ -66,58 +70,150 @@ part-at t c at l =
     ∙ ap (take (length c)) (drop-at (take at t) (c ++ drop (at + length c) t) at (length-take-le at t (omega arith)))
     ∙ take-at c (drop (at + length c) t) (length c) refl
 
--- ---- the loop that writes the slots, at slot i: n bytes of it are the canonical form of row i's ID
+-- ---- places that were filled
 
-module _ (R : IdRules) (L : Lawful R) (rows : ℕ → Row) (id texts after lens : List ℕ) (i n : ℕ) (few : i < 64) (room : Room texts lens)
-    (e : id ≡ rows i .id) (size : n ≡ length (R .canon id)) (written : after ≡ overwrite texts (i * 256) (R .canon id))
+module _ {A : Type 0} where
+  pub length-filled : (l : List A) (m : ℕ) (f : ℕ → A) → length (filled l m f) ≡ length l
+  unfolding filled
+  length-filled l zero f = refl
+  length-filled l (suc m) f = length-set (filled l m f) m (f m) ∙ length-filled l m f
+
+  pub filled-at : (l : List A) (m : ℕ) (f : ℕ → A) (d : A) → m ≤ length l → (k : ℕ) → k < m → getD (filled l m f) k d ≡ f k
+  unfolding filled
+  filled-at l zero f d h k q = absurd (omega arith)
+  filled-at l (suc m) f d h k q =
+      below-more (λ j. getD (set (filled l m f) m (f m)) j d ≡ f j) m
+      (λ j p. getD-set-other (filled l m f) m j (f m) d (λ (z : j ≡ m). omega arith) ∙ filled-at l m f d (omega arith) j p)
+      (getD-set-same (filled l m f) m (f m) d (omega (arith, length-filled l m f)))
+      k (omega arith)
+
+  pub filled-same : (l : List A) (m : ℕ) (f g : ℕ → A) → ((k : ℕ) → k < m → f k ≡ g k) → filled l m f ≡ filled l m g
+  unfolding filled
+  filled-same l zero f g e = refl
+  filled-same l (suc m) f g e = ap₂ (λ z x. set z m x) (filled-same l m f g (λ k h. e k (omega arith))) (e m (omega arith))
+
+  pub filled-next : (l : List A) (i : ℕ) (f : ℕ → A) → filled l (i + 1) f ≡ set (filled l i f) i (f i)
+  unfolding filled
+  filled-next l i f = rw (add-one i)
+
+pub length-slots : (t : List ℕ) (m : ℕ) (f : ℕ → List ℕ) → length (slots t m f) ≡ length t
+unfolding slots
+length-slots t zero f = refl
+length-slots t (suc m) f = length-overwrite (slots t m f) (m * 256) (f m) ∙ length-slots t m f
+
+pub slots-same : (t : List ℕ) (m : ℕ) (f g : ℕ → List ℕ) → ((k : ℕ) → k < m → f k ≡ g k) → slots t m f ≡ slots t m g
+unfolding slots
+slots-same t zero f g e = refl
+slots-same t (suc m) f g e = ap₂ (λ z x. overwrite z (m * 256) x) (slots-same t m f g (λ k h. e k (omega arith))) (e m (omega arith))
+
+pub slots-next : (t : List ℕ) (i : ℕ) (f : ℕ → List ℕ) → slots t (i + 1) f ≡ overwrite (slots t i f) (i * 256) (f i)
+unfolding slots
+slots-next t i f = rw (add-one i)
+
+-- a slot is read back
+slots-text : (t : List ℕ) (m : ℕ) (f : ℕ → List ℕ) → ((k : ℕ) → length (f k) ≤ 256) → m * 256 ≤ length t → (k : ℕ) → k < m → take (length (f k)) (drop (k * 256) (slots t m f)) ≡ f k
+unfolding slots
+slots-text t zero f short room k h = absurd (omega arith)
+slots-text t (suc m) f short room k h =
+    let fits : m * 256 + length (f m) ≤ length (slots t m f) = omega (arith, short m, length-slots t m f) in
+    below-more (λ j. take (length (f j)) (drop (j * 256) (overwrite (slots t m f) (m * 256) (f m))) ≡ f j) m
+    (λ j p. part-before (slots t m f) (f m) (m * 256) (j * 256) (length (f j)) (omega (arith, short j)) fits ∙ slots-text t m f short (omega arith) j p)
+    (part-at (slots t m f) (f m) (m * 256) fits)
+    k (omega arith)
+
+-- ---- canonical forms in slots
+
+module _ (R : IdRules) (L : Lawful R) (rows : ℕ → Row) (m : ℕ) (texts₀ lens₀ texts lens : List ℕ) (room : m * 256 ≤ length texts₀) (places : m ≤ length lens₀)
+    (te : texts ≡ slots texts₀ m (form R rows)) (le : lens ≡ filled lens₀ m (formLength R rows))
   where
-    fits : i * 256 + length (R .canon id) ≤ length texts
-    fits = omega (arith, L .canon-short id, room .texts-room)
+    pub held : (k : ℕ) → k < m → Held R rows texts lens k
+    unfolding text form formLength
+    held k h =
+        let g : getD lens k 0 ≡ length (R .canon (rows k .id)) = ap (λ z. getD z k 0) le ∙ filled-at lens₀ m (formLength R rows) 0 places k h in
+        record { size = g; text-is = ap₂ (λ n z. take n (drop (k * 256) z)) g te ∙ slots-text texts₀ m (form R rows) (λ j. L .canon-short (rows j .id)) room k h }
 
-    -- an earlier slot stays
-    kept : (k : ℕ) → k < i → Held R rows texts lens k → Held R rows after (set lens i n) k
-    unfolding text
-    kept k h p =
-        let g : getD (set lens i n) k 0 ≡ getD lens k 0 = getD-set-other lens i k n 0 (λ (q : k ≡ i). omega arith) in
-        record {
-          size = g ∙ p .size;
-          text-is =
-              ap₂ (λ l z. take l (drop (k * 256) z)) g written
-              ∙ part-before texts (R .canon id) (i * 256) (k * 256) (getD lens k 0) (omega (arith, p .size, L .canon-short (rows k .id))) fits
-              ∙ p .text-is;
-        }
+-- ---- the loop that makes them, at row i
 
-    new : Held R rows after (set lens i n) i
-    unfolding text
-    new =
-        let g : getD (set lens i n) i 0 ≡ length (R .canon id) = getD-set-same lens i n 0 (omega (arith, room .lens-room)) ∙ size in
-        record {
-          size = g ∙ ap (λ z. length (R .canon z)) e;
-          text-is = ap₂ (λ l z. take l (drop (i * 256) z)) g written ∙ part-at texts (R .canon id) (i * 256) fits ∙ ap (R .canon) e;
-        }
+module _ (R : IdRules) (rows : ℕ → Row) (i : ℕ) (texts₀ lens₀ keys₀ texts lens keys : List ℕ) (f : Formed R rows i texts₀ lens₀ keys₀ texts lens keys) where
+  pub formed-lengths : (length texts ≡ length texts₀) × (length lens ≡ length lens₀) × (length keys ≡ length keys₀)
+  formed-lengths = (ap length (f .texts-are) ∙ length-slots texts₀ i (form R rows), ap length (f .lens-are) ∙ length-filled lens₀ i (formLength R rows), ap length (f .keys-are) ∙ length-filled keys₀ i (λ k. headKey (form R rows k)))
 
-    pub held-more : ((k : ℕ) → k < i → Held R rows texts lens k) → (k : ℕ) → k < i + 1 → Held R rows after (set lens i n) k
-    held-more h = below-more _ i (λ k l. kept k l (h k l)) new
+  pub formed-room : (n : ℕ) → Room n texts₀ lens₀ keys₀ → Room n texts lens keys
+  formed-room n r = record {
+    texts-room = omega (arith, r .texts-room, formed-lengths .0);
+    lens-room = omega (arith, r .lens-room, formed-lengths .1);
+    keys-room = omega (arith, r .keys-room, formed-lengths .2);
+  }
 
-    pub bad-here : n ≡ 0 → badId R (rows i) ≡ true
+  -- what `canonical_at` gives for the ID of row i
+  module _ (id after : List ℕ) (made : Form) (e : id ≡ rows i .id) (q : made ≡ formOf (R .canon id)) (w : after ≡ overwrite texts (i * 256) (R .canon id)) where
+    size : made .length ≡ length (R .canon (rows i .id))
+    unfolding formOf
+    size = ap (λ (z : Form). z .length) q ∙ ap (λ z. length (R .canon z)) e
+
+    number : made .key ≡ headKey (R .canon (rows i .id))
+    unfolding formOf
+    number = ap (λ (z : Form). z .key) q ∙ ap (λ z. headKey (R .canon z)) e
+
+    pub formed-more : Formed R rows (i + 1) texts₀ lens₀ keys₀ after (set lens i (made .length)) (set keys i (made .key))
+    unfolding form formLength
+    formed-more = record {
+      texts-are = w ∙ ap₂ (λ z x. overwrite z (i * 256) (R .canon x)) (f .texts-are) e ∙ sym (slots-next texts₀ i (form R rows));
+      lens-are = ap₂ (λ z x. set z i x) (f .lens-are) size ∙ sym (filled-next lens₀ i (formLength R rows));
+      keys-are = ap₂ (λ z x. set z i x) (f .keys-are) number ∙ sym (filled-next keys₀ i (λ k. headKey (form R rows k)));
+    }
+
+    pub bad-here : made .length ≡ 0 → badId R (rows i) ≡ true
     unfolding badId
-    bad-here z = ap (λ x. empty (R .canon x)) (sym e) ∙ length-empty (R .canon id) (sym size ∙ z)
+    bad-here z = length-empty (R .canon (rows i .id)) (sym size ∙ z)
 
-    pub fine-here : (n ≡ 0 → ⊥) → badId R (rows i) ≡ false
+    pub fine-here : (made .length ≡ 0 → ⊥) → badId R (rows i) ≡ false
     unfolding badId
-    fine-here z = ap (λ x. empty (R .canon x)) (sym e) ∙ length-some (R .canon id) (λ (q : length (R .canon id) ≡ 0). z (size ∙ q))
+    fine-here z = length-some (R .canon (rows i .id)) (λ (q : length (R .canon (rows i .id)) ≡ 0). z (size ∙ q))
+
+    -- nothing is written of an ID that breaks the rules
+    pub formed-bad : made .length ≡ 0 → Formed R rows i texts₀ lens₀ keys₀ after lens keys
+    formed-bad z = record {
+      texts-are = w ∙ ap (overwrite texts (i * 256)) (none (R .canon id) (ap (λ x. length (R .canon x)) e ∙ sym size ∙ z)) ∙ overwrite-nil texts (i * 256) ∙ f .texts-are;
+      lens-are = f .lens-are;
+      keys-are = f .keys-are;
+    }
+      where
+        none : (l : List ℕ) → length l ≡ 0 → l ≡ []
+        none [] h = refl
+        none (x ∷ l) h = absurd (omega arith)
 
 -- ---- the slots, as texts
 
--- slots that hold the canonical IDs of rows whose IDs keep the rules
-pub held-texts : (R : IdRules) → Lawful R → (rows : ℕ → Row) (n : ℕ) (texts lens : List ℕ)
-    → ((k : ℕ) → k < n → Held R rows texts lens k) → ((k : ℕ) → k < n → badId R (rows k) ≡ false) → Texts R texts lens n
-unfolding badId
-held-texts R L rows n texts lens held named k h = rw (held k h .text-is) (record { again = L .canon-again (rows k .id); some = named k h })
+-- slots that hold the canonical IDs of n rows whose IDs keep the rules
+pub formed-texts : (R : IdRules) → Lawful R → (rows : ℕ → Row) (n : ℕ) (texts₀ lens₀ keys₀ texts lens keys : List ℕ) → Room n texts₀ lens₀ keys₀
+    → Formed R rows n texts₀ lens₀ keys₀ texts lens keys → ((k : ℕ) → k < n → badId R (rows k) ≡ false) → Texts R texts lens keys n
+unfolding badId form
+formed-texts R L rows n texts₀ lens₀ keys₀ texts lens keys room f named = record {
+  numbers = formed-room R rows n texts₀ lens₀ keys₀ texts lens keys f n room .keys-room;
+  each = λ k h.
+      let x = held R L rows n texts₀ lens₀ texts lens (room .texts-room) (room .lens-room) (f .texts-are) (f .lens-are) k h .text-is in
+      record {
+        canonical = rw x (record { again = L .canon-again (rows k .id); some = named k h });
+        key = ap (λ z. getD z k 0) (f .keys-are) ∙ filled-at keys₀ n (λ j. headKey (form R rows j)) 0 (room .keys-room) k h ∙ ap headKey (sym x);
+      };
+}
 
-pub named-texts : (R : IdRules) → Lawful R → (rows : ℕ → Row) (n : ℕ) (texts lens : List ℕ) (bad : ℕ) → Named R rows n texts lens bad → n ≤ bad → Texts R texts lens n
-named-texts R L rows n texts lens bad nd none =
-    held-texts R L rows n texts lens (nd .held none) (λ k h. first-before n (λ i. badId R (rows i)) k (omega (arith, nd .bad-is)))
+-- rows of which none has a bad ID
+module _ (R : IdRules) (L : Lawful R) (rows : ℕ → Row) (n : ℕ) (texts₀ lens₀ keys₀ texts lens keys : List ℕ) (bad : ℕ) (e : bad ≡ first n (λ i. badId R (rows i)))
+    (f : Formed R rows bad texts₀ lens₀ keys₀ texts lens keys) (none : n ≤ bad) (room : Room n texts₀ lens₀ keys₀)
+  where
+    bad-all : bad ≡ n
+    bad-all = omega (arith, e, first-le n (λ i. badId R (rows i)))
+
+    all : Formed R rows n texts₀ lens₀ keys₀ texts lens keys
+    all = subst (λ m. Formed R rows m texts₀ lens₀ keys₀ texts lens keys) bad-all f
+
+    pub named-held : (k : ℕ) → k < n → Held R rows texts lens k
+    named-held = held R L rows n texts₀ lens₀ texts lens (room .texts-room) (room .lens-room) (all .texts-are) (all .lens-are)
+
+    pub named-texts : Texts R texts lens keys n
+    named-texts = formed-texts R L rows n texts₀ lens₀ keys₀ texts lens keys room all (λ k h. first-before n (λ i. badId R (rows i)) k (omega (arith, e)))
 
 -- an earlier slot was looked for: r is the first, or i
 module _ {A : Type 0} (related : A → A → Bool) (f : ℕ → A) (i r : ℕ) (e : r ≡ first i (λ j. related (f j) (f i))) where

@@ -1,24 +1,29 @@
--- Where the check stops, stage by stage. Assumes nothing.
-use Prim.Native.Nat.{ℕ, zero, suc, _≤_, _<_}
+-- Where the check stops, stage by stage, and what is then left. Assumes nothing.
+use Prim.Native.Nat.{ℕ, zero, suc, _*_, _≤_, _<_}
 use native.Mathlib.Omega.{arith}
-use mathlib.Core.Path.{_≡_, refl, sym, ap, ap₂, _∙_}
+use mathlib.Core.Path.{_≡_, refl, sym, ap, ap₂, _∙_, subst}
 use mathlib.Core.Bool.{Bool, true, false}
 use mathlib.Core.List.{List}
-use lib.ListN.{length}
+use lib.ListN.{length, replicate}
 use Rattle.wire.specs.First.{first}
 use Rattle.wire.specs.Stop.{Stop, go, stop, _⨾_, stopAt, earlier}
-use Rattle.wire.proofs.FirstLaws.{first-same, any-same}
-use Rattle.wire.proofs.StopLaws.{⨾-go, ⨾-stop, stopAt-found, stopAt-clear}
-use Rattle.entry_id.specs.IdRules.{IdRules}
+use Rattle.wire.proofs.FirstLaws.{first-same, first-none, first-le, any-same}
+use Rattle.wire.proofs.StopLaws.{⨾-go, ⨾-stop, ⨾-next, ⨾-left, ⨾-right, stopAt-same, stopAt-found, stopAt-clear}
+use Rattle.entry_id.specs.Canonical.{headKey}
+use Rattle.entry_id.specs.IdRules.{IdRules, Lawful}
 use Rattle.bundle.specs.Table.{Row, count, rowStart, row, tableEnd}
-use Rattle.bundle.specs.Check.{badRow, outside, meanSame, mix, headStop, tableStop, rowsStop, bundleStop, check}
-use Rattle.bundle.specs.Records.{rowsOf, text, Held, Judged, Examination}
-use Rattle.bundle_reader.specs.Slots.{Tabled, Named, relation}
+use Rattle.bundle.specs.Check.{badRow, badId, outside, meanSame, mix, unrefused, headStop, tableStop, rowsStop, bundleStop, check}
+use Rattle.bundle.specs.Accepted.{Accepted}
+use Rattle.bundle.specs.Records.{noRecord, rowsOf}
 use Rattle.bundle.specs.declared.EntryRecord.{EntryRecord}
 use Rattle.bundle.specs.declared.Checked.{Checked}
 use Rattle.bundle.proofs.CheckLaws.{unrefused-go, unrefused-stop}
-use Rattle.bundle.proofs.AcceptLaws.{rowsStop-same}
+use Rattle.bundle.proofs.AcceptLaws.{rowsStop-same, accepted}
+use Rattle.bundle_reader.specs.Examined.{filled, slots, text, form, formLength, made, rowsIn, examined, formsOf}
+use Rattle.bundle_reader.specs.Slots.{Rows, Tabled, Room, Formed, Held, relation, Examination}
+use Rattle.bundle_reader.specs.declared.Examined.{Examined}
 use Rattle.bundle_reader.proofs.RowLaws.{rows-all, rows-are}
+use Rattle.bundle_reader.proofs.SlotLaws.{filled-same, slots-same, held}
 
 -- ---- a chain stops at its first refusal, and goes past what does not refuse
 
@@ -28,121 +33,207 @@ found-at k n p r rest e h = rw (stopAt-found (suc k) n p r e h) (sym (⨾-stop (
 pub past : (k n : ℕ) (p : ℕ → Bool) (r : ℕ) (rest t : Stop) → r ≡ first n p → n ≤ r → t ≡ rest → t ≡ stopAt k n p ⨾ rest
 past k n p r rest t e h q = rw (stopAt-clear k n p r e h) (q ∙ sym (⨾-go rest))
 
--- ---- what the code compares is what the rows say
+pub stops-first : (a b : Stop) (k i : ℕ) → 0 < k → stop k i ≡ a → stop k i ≡ a ⨾ b
+stops-first a b zero i h e = absurd (omega arith)
+stops-first a b (suc k) i h e = e ∙ sym (⨾-stop a b k (ap (λ t. t .number) (sym e)))
 
-related-rows : (R : IdRules) (rows : ℕ → Row) (texts lens : List ℕ) (n : ℕ) (f : List ℕ → List ℕ → Bool) (g : Row → Row → Bool)
-    → ((k : ℕ) → k < n → Held R rows texts lens k) → ((r q : Row) → f (R .canon (r .id)) (R .canon (q .id)) ≡ g r q)
-    → first n (earlier f (text texts lens)) ≡ first n (earlier g rows)
-unfolding earlier
-related-rows R rows texts lens n f g held same =
-    first-same n _ _ (λ i h. any-same i _ _ (λ j l. ap₂ f (held j (omega arith) .text-is) (held i h .text-is) ∙ same (rows j) (rows i)))
+none-left : (a : Stop) (k i v : ℕ) → 0 < k → stop k i ≡ a → unrefused a v ≡ 0
+none-left a zero i v h e = absurd (omega arith)
+none-left a (suc k) i v h e = unrefused-stop a v k (ap (λ t. t .number) (sym e))
 
-held-same : (R : IdRules) (f g : ℕ → Row) (texts lens : List ℕ) (k : ℕ) → f k ≡ g k → Held R f texts lens k → Held R g texts lens k
-held-same R f g texts lens k e h = record { size = h .size ∙ ap (λ r. length (R .canon (r .id))) e; text-is = h .text-is ∙ ap (λ r. R .canon (r .id)) e }
+-- ---- 7 and 8, of n slots
+
+module _ (n : ℕ) (p q : ℕ → Bool) (twice : ℕ) (a : twice ≡ first n p) where
+  pub at-7 : twice < n → stop 7 twice ≡ stopAt 7 n p ⨾ stopAt 8 n q
+  at-7 h = found-at 6 n p twice _ a h
+
+  module _ (once : n ≤ twice) (mixed : ℕ) (b : mixed ≡ first n q) where
+    pub at-8 : mixed < n → stop 8 mixed ≡ stopAt 7 n p ⨾ stopAt 8 n q
+    at-8 h = past 7 n p twice _ _ a once (sym (stopAt-found 8 n q mixed b h))
+
+    pub at-0 : n ≤ mixed → stop 0 0 ≡ stopAt 7 n p ⨾ stopAt 8 n q
+    at-0 h = past 7 n p twice _ go a once (sym (stopAt-clear 8 n q mixed b h))
 
 -- ---- 5 to 8
 
-pub judged : (R : IdRules) (rows : ℕ → Row) (n : ℕ) (texts lens : List ℕ) (k i : ℕ) (t : Stop) → stop (suc k) i ≡ t → Judged R t rows n texts lens (suc k) i
-judged R rows n texts lens k i t e = record { stop-is = e; held = λ q. absurd (omega arith) }
+-- what the code compares is what the rows say
+related-rows : (R : IdRules) (rows : ℕ → Row) (texts lens : List ℕ) (k n : ℕ) (f : List ℕ → List ℕ → Bool) (g : Row → Row → Bool)
+    → ((k : ℕ) → k < n → Held R rows texts lens k) → ((r q : Row) → f (R .canon (r .id)) (R .canon (q .id)) ≡ g r q)
+    → stopAt k n (earlier f (text texts lens)) ≡ stopAt k n (earlier g rows)
+unfolding earlier
+related-rows R rows texts lens k n f g held same =
+    stopAt-same k n _ _ (λ i h. any-same i _ _ (λ j l. ap₂ f (held j (omega arith) .text-is) (held i h .text-is) ∙ same (rows j) (rows i)))
 
-module _ (R : IdRules) (rows : ℕ → Row) (n end len : ℕ) (texts lens : List ℕ) (bad : ℕ) (nd : Named R rows n texts lens bad) where
-  abbrev Answer : ℕ → ℕ → Type 0
-  Answer k i = Judged R (rowsStop R end len n rows) rows n texts lens k i
-
-  pub at-5 : bad < n → Answer 5 bad
+module _ (R : IdRules) (rows : ℕ → Row) (n end len bad : ℕ) (bad-is : bad ≡ first n (λ i. badId R (rows i))) where
+  pub at-5 : bad < n → stop 5 bad ≡ rowsStop R end len n rows
   unfolding rowsStop
-  at-5 h = judged R rows n texts lens 4 bad _ (found-at 4 n _ bad _ (nd .bad-is) h)
+  at-5 h = found-at 4 n _ bad _ bad-is h
 
   module _ (none : n ≤ bad) (out : ℕ) (out-is : out ≡ first n (λ i. outside end len (rows i .offset) (rows i .size))) where
     past-5 : (t : Stop) → t ≡ stopAt 6 n (λ i. outside end len (rows i .offset) (rows i .size)) ⨾ stopAt 7 n (earlier (meanSame R) rows) ⨾ stopAt 8 n (earlier (mix R) rows) → t ≡ rowsStop R end len n rows
     unfolding rowsStop
-    past-5 t e = past 5 n _ bad _ t (nd .bad-is) none e
+    past-5 t e = past 5 n _ bad _ t bad-is none e
 
-    pub at-6 : out < n → Answer 6 out
-    at-6 h = judged R rows n texts lens 5 out _ (past-5 _ (found-at 5 n _ out _ out-is h))
+    pub at-6 : out < n → stop 6 out ≡ rowsStop R end len n rows
+    at-6 h = past-5 _ (found-at 5 n _ out _ out-is h)
 
-    module _ (inside : n ≤ out) (twice : ℕ) (a : twice ≡ first n (earlier (relation R true) (text texts lens))) where
-      twice-is : twice ≡ first n (earlier (meanSame R) rows)
-      unfolding meanSame
-      twice-is = a ∙ related-rows R rows texts lens n (R .sameMeaning) (meanSame R) (nd .held none) (λ r q. refl)
+    pub past-6 : n ≤ out → (texts lens : List ℕ) → ((k : ℕ) → k < n → Held R rows texts lens k) → (t : Stop)
+        → t ≡ stopAt 7 n (earlier (relation R true) (text texts lens)) ⨾ stopAt 8 n (earlier (relation R false) (text texts lens)) → t ≡ rowsStop R end len n rows
+    unfolding meanSame mix
+    past-6 inside texts lens held t e =
+        past-5 t (past 6 n _ out _ t out-is inside
+        (e ∙ ap₂ _⨾_ (related-rows R rows texts lens 7 n (R .sameMeaning) (meanSame R) held (λ r q. refl)) (related-rows R rows texts lens 8 n (R .mixed) (mix R) held (λ r q. refl))))
 
-      past-6 : (t : Stop) → t ≡ stopAt 7 n (earlier (meanSame R) rows) ⨾ stopAt 8 n (earlier (mix R) rows) → t ≡ rowsStop R end len n rows
-      past-6 t e = past-5 t (past 6 n _ out _ t out-is inside e)
+-- ---- what was made of rows
 
-      pub at-7 : twice < n → Answer 7 twice
-      at-7 h = judged R rows n texts lens 6 twice _ (past-6 _ (found-at 6 n _ twice _ twice-is h))
+pub formed-none : (R : IdRules) (rows : ℕ → Row) (m : ℕ) (texts lens keys : List ℕ) → m ≡ 0 → Formed R rows m texts lens keys texts lens keys
+unfolding slots filled
+formed-none R rows m texts lens keys e = rw e (record { texts-are = refl; lens-are = refl; keys-are = refl })
 
-      module _ (once : n ≤ twice) (mixed : ℕ) (m : mixed ≡ first n (earlier (relation R false) (text texts lens))) where
-        mixed-is : mixed ≡ first n (earlier (mix R) rows)
-        unfolding mix
-        mixed-is = m ∙ related-rows R rows texts lens n (R .mixed) (mix R) (nd .held none) (λ r q. refl)
+pub formed-is : (R : IdRules) (rows : ℕ → Row) (m q : ℕ) (texts₀ lens₀ keys₀ texts lens keys : List ℕ) → m ≡ q → Formed R rows m texts₀ lens₀ keys₀ texts lens keys → Formed R rows q texts₀ lens₀ keys₀ texts lens keys
+formed-is R rows m q texts₀ lens₀ keys₀ texts lens keys e f = subst (λ z. Formed R rows z texts₀ lens₀ keys₀ texts lens keys) e f
 
-        past-7 : (t : Stop) → t ≡ stopAt 8 n (earlier (mix R) rows) → t ≡ rowsStop R end len n rows
-        past-7 t e = past-6 t (past 7 n _ twice _ t twice-is once e)
-
-        pub at-8 : mixed < n → Answer 8 mixed
-        at-8 h = judged R rows n texts lens 7 mixed _ (past-7 _ (sym (stopAt-found 8 n _ mixed mixed-is h)))
-
-        pub at-0 : n ≤ mixed → Answer 0 0
-        at-0 h = record { stop-is = past-7 go (sym (stopAt-clear 8 n _ mixed mixed-is h)); held = λ q. nd .held none }
+pub formed-same : (R : IdRules) (f g : ℕ → Row) (n m q : ℕ) (texts₀ lens₀ keys₀ texts lens keys : List ℕ) → ((k : ℕ) → k < n → f k ≡ g k) → m ≤ n → m ≡ q
+    → Formed R f m texts₀ lens₀ keys₀ texts lens keys → Formed R g q texts₀ lens₀ keys₀ texts lens keys
+unfolding form formLength
+formed-same R f g n m q texts₀ lens₀ keys₀ texts lens keys e h z x =
+    rw (← z) (record {
+      texts-are = x .texts-are ∙ slots-same texts₀ m (form R f) (form R g) (λ k l. ap (λ r. R .canon (r .id)) (e k (omega arith)));
+      lens-are = x .lens-are ∙ filled-same lens₀ m (formLength R f) (formLength R g) (λ k l. ap (λ r. length (R .canon (r .id))) (e k (omega arith)));
+      keys-are = x .keys-are ∙ filled-same keys₀ m (λ k. headKey (form R f k)) (λ k. headKey (form R g k)) (λ k l. ap (λ r. headKey (R .canon (r .id))) (e k (omega arith)));
+    })
 
 -- ---- 1 to 8
 
-stops-first : (a b : Stop) (k i : ℕ) → 0 < k → stop k i ≡ a → stop k i ≡ a ⨾ b
-stops-first a b zero i h e = absurd (omega arith)
-stops-first a b (suc k) i h e = e ∙ sym (⨾-stop a b k (ap (λ t. t .number) (sym e)))
+module _ (R : IdRules) (s : List ℕ) where
+  -- a refusal is what examining gives
+  pub refused : (number place : ℕ) → 0 < number → stop number place ≡ bundleStop R s
+      → _≡_ {A = Examined} (record { number = number; place = place; count = 0; rows = replicate 64 noRecord }) (examined R s)
+  unfolding examined rowsIn filled
+  refused zero place h e = absurd (omega arith)
+  refused (suc k) place h e =
+      let c = sym (unrefused-stop (bundleStop R s) (count s) k (ap (λ t. t .number) (sym e))) in
+      λ i. record { number = e i .number; place = e i .place; count = c i; rows = rowsIn s (c i) }
 
-module _ (R : IdRules) (s texts lens : List ℕ) where
-  refused : (number place : ℕ) (rows : List EntryRecord) → 0 < number → stop number place ≡ bundleStop R s → Examination R s texts lens number place 0 rows
-  refused zero place rows h e = absurd (omega arith)
-  refused (suc k) place rows h e = record {
-    stop-is = e;
-    count-is = sym (unrefused-stop (bundleStop R s) (count s) k (ap (λ t. t .number) (sym e)));
-    rows-are = λ q. absurd (omega arith);
-    held = λ q. absurd (omega arith);
-  }
-
-  pub examined-head : (r : ℕ) (rows : List EntryRecord) → stop r 0 ≡ headStop s → 0 < r → Examination R s texts lens r 0 0 rows
-  unfolding bundleStop
-  examined-head r rows e h = refused r 0 rows h (stops-first (headStop s) _ r 0 h e)
-
-  module _ (r n bad end : ℕ) (rows : List EntryRecord) (e : stop r 0 ≡ headStop s) (z : r ≡ 0) (q : n ≡ count s) (t : Tabled s n rows bad end) where
-    past-3 : (u : Stop) → u ≡ tableStop s ⨾ rowsStop R (tableEnd s) (length s) (count s) (row s) → u ≡ bundleStop R s
+  module _ (r : ℕ) (e : stop r 0 ≡ headStop s) where
+    pub head-stops : 0 < r → stop r 0 ≡ bundleStop R s
     unfolding bundleStop
-    past-3 u p = let g : headStop s ≡ go = sym e ∙ ap (λ k. stop k 0) z in rw g (p ∙ sym (⨾-go _))
+    head-stops h = stops-first (headStop s) _ r 0 h e
 
-    bad-is : bad ≡ first (count s) (λ i. badRow s (rowStart s i))
-    bad-is = rw q at (t .bad-is)
+    pub head-forms : 0 < r → formsOf R s ≡ 0
+    unfolding formsOf made
+    head-forms h = none-left (headStop s ⨾ tableStop s) r 0 _ h (stops-first (headStop s) (tableStop s) r 0 h e)
 
-    pub examined-table : bad < n → Examination R s texts lens 4 bad 0 rows
-    unfolding tableStop
-    examined-table h = refused 4 bad rows (omega arith) (past-3 _ (found-at 3 (count s) _ bad _ bad-is (omega arith)))
+    module _ (z : r ≡ 0) (n bad end : ℕ) (rows : List EntryRecord) (q : n ≡ count s) (t : Tabled s n rows bad end) where
+      head-goes : headStop s ≡ go
+      head-goes = sym e ∙ ap (λ k. stop k 0) z
 
-    module _ (none : n ≤ bad) where
-      rows-same : (k : ℕ) → k < n → rowsOf s rows k ≡ row s k
-      rows-same = rows-are s n rows (rows-all s n rows bad end t none)
+      past-3 : (u : Stop) → u ≡ tableStop s ⨾ rowsStop R (tableEnd s) (length s) (count s) (row s) → u ≡ bundleStop R s
+      unfolding bundleStop
+      past-3 u p = rw head-goes (p ∙ sym (⨾-go _))
 
-      past-4 : rowsStop R end (length s) n (rowsOf s rows) ≡ bundleStop R s
-      unfolding tableStop tableEnd
-      past-4 =
-          rowsStop-same R end (length s) n (rowsOf s rows) (row s) rows-same
-          ∙ ap₂ (λ x y. rowsStop R x (length s) y (row s)) (t .end-is none ∙ ap (rowStart s) q) q
-          ∙ past-3 _ (past 4 (count s) _ bad _ _ bad-is (omega arith) refl)
+      bad-is : bad ≡ first (count s) (λ i. badRow s (rowStart s i))
+      bad-is = rw q at (t .bad-is)
 
-      module _ (number place : ℕ) (j : Judged R (rowsStop R end (length s) n (rowsOf s rows)) (rowsOf s rows) n texts lens number place) where
-        pub examined-rows : 0 < number → Examination R s texts lens number place 0 rows
-        examined-rows h = refused number place rows h (j .stop-is ∙ past-4)
+      pub table-stops : bad < n → stop 4 bad ≡ bundleStop R s
+      unfolding tableStop
+      table-stops h = past-3 _ (found-at 3 (count s) _ bad _ bad-is (omega arith))
 
-        pub examined-all : number ≡ 0 → Examination R s texts lens number place n rows
-        examined-all y = record {
-          stop-is = j .stop-is ∙ past-4;
-          count-is = q ∙ sym (unrefused-go (bundleStop R s) (count s) (ap (λ t. t .number) (sym (j .stop-is ∙ past-4)) ∙ y));
-          rows-are = λ _. rows-same;
-          held = λ z k h. held-same R (rowsOf s rows) (row s) texts lens k (rows-same k h) (j .held z k h);
-        }
+      pub table-forms : bad < n → formsOf R s ≡ 0
+      unfolding formsOf made tableStop
+      table-forms h =
+          let g : headStop s ⨾ tableStop s ≡ stop 4 bad = rw head-goes (⨾-go (tableStop s) ∙ stopAt-found 4 (count s) _ bad bad-is (omega arith)) in
+          unrefused-stop (headStop s ⨾ tableStop s) _ 3 (ap (λ (u : Stop). u .number) g)
+
+      module _ (none : n ≤ bad) where
+        rows-same : (k : ℕ) → k < n → rowsOf s rows k ≡ row s k
+        rows-same = rows-are s n rows (rows-all s n rows bad end t none)
+
+        pub past-4 : rowsStop R end (length s) n (rowsOf s rows) ≡ bundleStop R s
+        unfolding tableStop tableEnd
+        past-4 =
+            rowsStop-same R end (length s) n (rowsOf s rows) (row s) rows-same
+            ∙ ap₂ (λ x y. rowsStop R x (length s) y (row s)) (t .end-is none ∙ ap (rowStart s) q) q
+            ∙ past-3 _ (past 4 (count s) _ bad _ _ bad-is (omega arith) refl)
+
+        pub table-formed : (texts₀ lens₀ keys₀ texts lens keys : List ℕ) → Formed R (rowsOf s rows) (first n (λ i. badId R (rowsOf s rows i))) texts₀ lens₀ keys₀ texts lens keys → Formed R (row s) (formsOf R s) texts₀ lens₀ keys₀ texts lens keys
+        unfolding formsOf made tableStop badId
+        table-formed texts₀ lens₀ keys₀ texts lens keys =
+            let g : headStop s ⨾ tableStop s ≡ go = rw head-goes (⨾-go (tableStop s) ∙ stopAt-clear 4 (count s) _ bad bad-is (omega arith)) in
+            formed-same R (rowsOf s rows) (row s) n _ _ texts₀ lens₀ keys₀ texts lens keys rows-same (first-le n _)
+            (first-same n _ _ (λ k h. ap (badId R) (rows-same k h)) ∙ ap (λ m. first m (λ i. badId R (row s i))) q
+            ∙ sym (unrefused-go (headStop s ⨾ tableStop s) _ (ap (λ (u : Stop). u .number) g)))
+
+        pub all : (number place : ℕ) → stop number place ≡ bundleStop R s → number ≡ 0 → _≡_ {A = Examined} (record { number = number; place = place; count = n; rows = rows }) (examined R s)
+        unfolding examined
+        all number place u y =
+            let c : n ≡ unrefused (bundleStop R s) (count s) = q ∙ sym (unrefused-go (bundleStop R s) (count s) (ap (λ t. t .number) (sym u) ∙ y)) in
+            let w : rows ≡ rowsIn s n = rows-all s n rows bad end t none .are in
+            λ i. record { number = u i .number; place = u i .place; count = c i; rows = (w ∙ ap (rowsIn s) c) i }
 
 -- the answer of the check
-pub checked : (R : IdRules) (s texts lens : List ℕ) (number place n : ℕ) (rows : List EntryRecord) → Examination R s texts lens number place n rows
-    → _≡_ {A = Checked} (record { number = number; place = place; count = n }) (check R s)
-unfolding check
-checked R s texts lens number place n rows x = λ j. record { number = x .stop-is j .number; place = x .stop-is j .place; count = x .count-is j }
+pub checked : (R : IdRules) (s : List ℕ) (e : Examined) → e ≡ examined R s → _≡_ {A = Checked} (record { number = e .number; place = e .place; count = e .count }) (check R s)
+unfolding check examined
+checked R s e q = ap (λ (z : Examined). record { number = z .number; place = z .place; count = z .count }) q
+
+-- ---- what examining leaves
+
+module _ (R : IdRules) (s : List ℕ) (z : bundleStop R s .number ≡ 0) where
+  ok : Accepted R s
+  ok = accepted R s z
+
+  -- of an accepted bundle every form is made
+  pub all-formed : formsOf R s ≡ count s
+  unfolding formsOf made bundleStop
+  all-formed =
+      let h : headStop s .number ≡ 0 = ⨾-left (headStop s) _ z in
+      let t : tableStop s .number ≡ 0 = ⨾-left (tableStop s) _ (⨾-right (headStop s) _ z) in
+      unrefused-go (headStop s ⨾ tableStop s) _ (ap (λ u. u .number) (⨾-next (headStop s) (tableStop s) h) ∙ t)
+      ∙ first-none (count s) (λ i. badId R (row s i)) (ok .sense .meant .named)
+
+module _ (R : IdRules) (L : Lawful R) (s texts₀ lens₀ texts lens : List ℕ) (e : Examined) (q : e ≡ examined R s) (te : texts ≡ slots texts₀ (formsOf R s) (form R (row s))) (le : lens ≡ filled lens₀ (formsOf R s) (formLength R (row s)))
+    (room : count s ≤ 64 → (count s * 256 ≤ length texts₀) × (count s ≤ length lens₀))
+  where
+    stop-is : stop (e .number) (e .place) ≡ bundleStop R s
+    unfolding examined
+    stop-is = ap (λ (z : Examined). stop (z .number) (z .place)) q
+
+    module _ (z : e .number ≡ 0) where
+      go-is : bundleStop R s .number ≡ 0
+      go-is = ap (λ t. t .number) (sym stop-is) ∙ z
+
+      sound : Accepted R s
+      sound = accepted R s go-is
+
+      n-is : e .count ≡ count s
+      unfolding examined
+      n-is = ap (λ (z : Examined). z .count) q ∙ unrefused-go (bundleStop R s) (count s) go-is
+
+      rows-held : Rows s (e .count) (e .rows)
+      unfolding examined
+      rows-held = record {
+        few = omega (arith, n-is, sound .frame .few);
+        fits = λ k h. sound .frame .rows k (omega (arith, n-is));
+        are = ap (λ (z : Examined). z .rows) q ∙ ap (rowsIn s) (ap (λ (z : Examined). z .count) (sym q));
+      }
+
+      forms-held : (k : ℕ) → k < e .count → Held R (row s) texts lens k
+      forms-held k h =
+          let (a, b) = room (sound .frame .few) in
+          let m = all-formed R s go-is in
+          held R L (row s) (formsOf R s) texts₀ lens₀ texts lens (omega (arith, a, m)) (omega (arith, b, m)) te le k (omega (arith, m, n-is))
+
+    pub examination : Examination R s texts lens (e .number) (e .place) (e .count) (e .rows)
+    unfolding examined
+    examination = record {
+      stop-is = stop-is;
+      count-is = ap (λ (z : Examined). z .count) q;
+      rows-are = λ z. rows-are s (e .count) (e .rows) (rows-held z);
+      held = forms-held;
+    }
+
+pub examination-of : (R : IdRules) → Lawful R → (s texts₀ lens₀ keys₀ texts lens keys : List ℕ) (e : Examined)
+    → (e ≡ examined R s) × Formed R (row s) (formsOf R s) texts₀ lens₀ keys₀ texts lens keys → (count s ≤ 64 → Room (count s) texts₀ lens₀ keys₀)
+    → Examination R s texts lens (e .number) (e .place) (e .count) (e .rows)
+examination-of R L s texts₀ lens₀ keys₀ texts lens keys e f room =
+    examination R L s texts₀ lens₀ texts lens e (f .0) (f .1 .texts-are) (f .1 .lens-are) (λ h. (room h .texts-room, room h .lens-room))

@@ -3,29 +3,27 @@ use Prim.Native.Nat.{ℕ, _+_, _*_, _<_, _≤_}
 use mathlib.Core.Path.{_≡_}
 use mathlib.Core.Bool.{Bool, true, false}
 use mathlib.Core.List.{List}
+use lib.Dec.{eqb}
 use lib.ListN.{length, getD}
 use Rattle.wire.specs.Bytes.{empty}
-use Rattle.wire.specs.Word.{word}
 use Rattle.wire.specs.First.{first}
+use Rattle.wire.specs.Stop.{Stop, stop}
+use Rattle.entry_id.specs.Canonical.{headKey}
 use Rattle.entry_id.specs.IdRules.{IdRules}
-use Rattle.bundle.specs.Table.{Row, rowStart}
-use Rattle.bundle.specs.Check.{badRow, outside, badId}
+use Rattle.bundle.specs.Table.{Row, count, rowStart, row}
+use Rattle.bundle.specs.Check.{badRow, outside, unrefused, bundleStop}
 use Rattle.bundle.specs.Accepted.{RowFits}
-use Rattle.bundle.specs.Records.{noRecord, badPart, text, Held}
+use Rattle.bundle.specs.Records.{noRecord, rowsOf, badPart}
 use Rattle.bundle.specs.declared.EntryRecord.{EntryRecord}
+use Rattle.bundle_reader.specs.Examined.{filled, slots, text, form, formLength, heldRow, rowsIn}
 
 -- ---- rows
-
--- the row that starts at `at`, as a record: the parts of s that hold its ID and its image
-unfoldable pub heldRow : List ℕ → ℕ → EntryRecord
-heldRow s at = record { «id_start» = at + 24; «id_len» = word 8 s (at + 16); «image_start» = word 8 s at; «image_len» = word 8 s (at + 8) }
 
 -- the first n rows of s, which 4 does not refuse
 pub record Rows (s : List ℕ) (n : ℕ) (rows : List EntryRecord) : Type 0 where
   pub few : n ≤ 64
-  pub room : length rows ≡ 64
   pub fits : (k : ℕ) → k < n → RowFits s (rowStart s k)
-  pub each : (k : ℕ) → k < n → getD rows k noRecord ≡ heldRow s (rowStart s k)
+  pub are : rows ≡ rowsIn s n
 
 -- the first bad row of n, or n, with the rows before it; where none is bad, the table's end
 pub record Tabled (s : List ℕ) (n : ℕ) (rows : List EntryRecord) (bad end : ℕ) : Type 0 where
@@ -43,28 +41,59 @@ pub record IdsIn (ids : List ℕ) (n : ℕ) (rows : List EntryRecord) : Type 0 w
   pub few : n ≤ 64
   pub inside : (k : ℕ) → k < n → getD rows k noRecord .«id_start» + getD rows k noRecord .«id_len» ≤ length ids
 
--- ---- canonical IDs, each in a slot of 256 bytes
+-- ---- canonical IDs, each in a slot of 256 bytes, with its length and its head's number
 
--- room for 64 slots and their lengths
-pub record Room (texts lens : List ℕ) : Type 0 where
-  pub texts-room : length texts ≡ 16384
-  pub lens-room : length lens ≡ 64
+-- room for n of them
+pub record Room (n : ℕ) (texts lens keys : List ℕ) : Type 0 where
+  pub texts-room : n * 256 ≤ length texts
+  pub lens-room : n ≤ length lens
+  pub keys-room : n ≤ length keys
+
+-- the first m were made
+pub record Formed (R : IdRules) (rows : ℕ → Row) (m : ℕ) (texts₀ lens₀ keys₀ texts lens keys : List ℕ) : Type 0 where
+  pub texts-are : texts ≡ slots texts₀ m (form R rows)
+  pub lens-are : lens ≡ filled lens₀ m (formLength R rows)
+  pub keys-are : keys ≡ filled keys₀ m (λ k. headKey (form R rows k))
+
+-- slot k holds the canonical ID of row k
+pub record Held (R : IdRules) (rows : ℕ → Row) (texts lens : List ℕ) (k : ℕ) : Type 0 where
+  pub size : getD lens k 0 ≡ length (R .canon (rows k .id))
+  pub text-is : text texts lens k ≡ R .canon (rows k .id)
 
 -- a canonical form
 pub record Canonical (R : IdRules) (a : List ℕ) : Type 0 where
   pub again : R .canon a ≡ a
   pub some : empty a ≡ false
 
--- n slots hold canonical forms
-abbrev pub Texts : IdRules → List ℕ → List ℕ → ℕ → Type 0
-Texts R texts lens n = (k : ℕ) → k < n → Canonical R (text texts lens k)
+-- slot k holds a canonical form, and its number lies beside it
+pub record Slot (R : IdRules) (texts lens keys : List ℕ) (k : ℕ) : Type 0 where
+  pub canonical : Canonical R (text texts lens k)
+  pub key : getD keys k 0 ≡ headKey (text texts lens k)
 
--- the first bad ID of n rows, or n; where none is bad, the slots hold the canonical IDs
-pub record Named (R : IdRules) (rows : ℕ → Row) (n : ℕ) (texts lens : List ℕ) (bad : ℕ) : Type 0 where
-  pub bad-is : bad ≡ first n (λ i. badId R (rows i))
-  pub held : n ≤ bad → (k : ℕ) → k < n → Held R rows texts lens k
+-- n slots do, and there is a number for each
+pub record Texts (R : IdRules) (texts lens keys : List ℕ) (n : ℕ) : Type 0 where
+  pub numbers : n ≤ length keys
+  pub each : (k : ℕ) → k < n → Slot R texts lens keys k
+
+-- the first slot with the number of slot i, or i
+unfoldable pub near : List ℕ → ℕ → ℕ
+near keys i = first i (λ j. eqb (getD keys j 0) (getD keys i 0))
 
 -- TWICE's relation of two canonical forms, or MIXED's
 abbrev pub relation : IdRules → Bool → List ℕ → List ℕ → Bool
 relation R true = R .sameMeaning
 relation R false = R .mixed
+
+-- ---- what is left of it
+
+-- what refuses n rows; where nothing does, their canonical IDs
+pub record Judged (R : IdRules) (t : Stop) (rows : ℕ → Row) (n : ℕ) (texts lens : List ℕ) (number place : ℕ) : Type 0 where
+  pub stop-is : stop number place ≡ t
+  pub held : number ≡ 0 → (k : ℕ) → k < n → Held R rows texts lens k
+
+-- what refuses a bundle, and its count, 0 on a refusal; where nothing does, its rows and their canonical IDs
+pub record Examination (R : IdRules) (s texts lens : List ℕ) (number place n : ℕ) (records : List EntryRecord) : Type 0 where
+  pub stop-is : stop number place ≡ bundleStop R s
+  pub count-is : n ≡ unrefused (bundleStop R s) (count s)
+  pub rows-are : number ≡ 0 → (k : ℕ) → k < n → rowsOf s records k ≡ row s k
+  pub held : number ≡ 0 → (k : ℕ) → k < n → Held R (row s) texts lens k

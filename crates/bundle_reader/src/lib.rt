@@ -1,21 +1,26 @@
 // The check of a bundle, and the pick of the image for a device name.
 ghost use mathlib.Core.Path.{_≡_};
-ghost use Prim.Native.Nat.{_+_, _*_, _<_, _≤_};
+ghost use mathlib.Core.Bool.{true, false};
+ghost use Prim.Native.Nat.{ℕ, _+_, _*_, _<_, _≤_};
 ghost use lib.ListN.{length, getD, take, drop, replicate};
 ghost use Rattle.wire.specs.Bytes.{same, overwrite};
 ghost use Rattle.wire.specs.First.{first};
-ghost use Rattle.wire.specs.Stop.{stop, earlier};
+ghost use Rattle.wire.specs.Stop.{stop, _⨾_, stopAt, earlier};
+ghost use Rattle.entry_id.specs.Canonical.{headKey};
 ghost use Rattle.entry_id.specs.Rules.{idRules};
-ghost use Rattle.bundle.specs.Table.{magic};
-ghost use Rattle.bundle.specs.Check.{badRow, outside, headStop, rowsStop, check};
+ghost use Rattle.bundle.specs.Table.{magic, count, row};
+ghost use Rattle.bundle.specs.Check.{badRow, badId, outside, headStop, rowsStop, check};
 ghost use Rattle.bundle.specs.Pick.{pick};
 ghost use Rattle.bundle.specs.Accepted.{RowFits};
 ghost use Rattle.bundle.specs.Theorems.{refusal};
-ghost use Rattle.bundle.specs.Records.{noRecord, recordAt, rowsOf, badPart, recordsStop, text, Judged, Examination};
-ghost use Rattle.bundle_reader.specs.Slots.{heldRow, Rows, Tabled, badRecord, IdsIn, Room, Canonical, Texts, Named, relation};
+ghost use Rattle.bundle.specs.Records.{noRecord, recordAt, rowsOf, badPart};
+ghost use Rattle.canonical_form.specs.Made.{formOf};
+ghost use Rattle.bundle_reader.specs.Examined.{filled, slots, text, form, formLength, heldRow, examined, formsOf, examinedRecords, formsOfRecords};
+ghost use Rattle.bundle_reader.specs.Slots.{Tabled, badRecord, IdsIn, Room, Formed, Canonical, Texts, near, relation};
 use bundle::Checked;
 use bundle::EntryRecord;
 use bundle::Picked;
+use canonical_form::Form;
 
 // The rows before the first bad one, which `bad` names; where none of them is bad, the table's end.
 struct Table {
@@ -30,7 +35,7 @@ pub struct Refusal {
     pub place: usize,
 }
 
-// A bundle as the check leaves it: the refusal, or 0, 0, the entry count and the rows.
+// A bundle that was examined: the refusal, or 0, 0, the entry count and the rows; records of zeros in every other place.
 pub struct Examined {
     pub number: usize,
     pub place: usize,
@@ -202,10 +207,10 @@ fn first_bad(ids: bool, rows: [EntryRecord; 64], n: usize, end: usize, len: usiz
     i
 }
 
-// The canonical form of the ID of `len` bytes at `start`, to slot i: its length, 0 where the ID breaks the rules.
-fn canonical_at(s: &[u8], start: usize, len: usize, texts: &mut [u8], i: usize) -> usize
+// The canonical form of the ID of `len` bytes at `start`, to slot i; of length 0 where the ID breaks the rules.
+fn canonical_at(s: &[u8], start: usize, len: usize, texts: &mut [u8], i: usize) -> Form
     requires { ⌜ (start + len ≤ length (now s)) × (i * 256 + 256 ≤ length (now texts)) ⌝ }
-    ensures { λ r. ⌜ (r ≡ length (idRules .canon (take len (drop start (now (s .entry)))))) × (now (texts .exit) ≡ overwrite (now (texts .entry)) (i * 256) (idRules .canon (take len (drop start (now (s .entry)))))) ⌝ }
+    ensures { λ r. ⌜ (r ≡ formOf (idRules .canon (take len (drop start (now (s .entry)))))) × (now (texts .exit) ≡ overwrite (now (texts .entry)) (i * 256) (idRules .canon (take len (drop start (now (s .entry)))))) ⌝ }
 {
     let from = i * 256;
     canonical_form::canonical(&s[start..start + len], &mut texts[from..from + 256])
@@ -218,18 +223,21 @@ fn canonicals(
     n: usize,
     texts: &mut [u8],
     lens: &mut [usize],
+    keys: &mut [u64],
 ) -> usize
-    requires { ⌜ IdsIn (now ids) n rows × Room (now texts) (now lens) ⌝ }
-    ensures { λ r. ⌜ Named idRules (rowsOf (now (ids .entry)) rows) n (now (texts .exit)) (now (lens .exit)) r ⌝ }
+    requires { ⌜ IdsIn (now ids) n rows × Room n (now texts) (now lens) (now keys) ⌝ }
+    ensures { λ r. ⌜ (r ≡ first n (λ i. badId idRules (rowsOf (now (ids .entry)) rows i))) × Formed idRules (rowsOf (now (ids .entry)) rows) r (now (texts .entry)) (now (lens .entry)) (now (keys .entry)) (now (texts .exit)) (now (lens .exit)) (now (keys .exit)) ⌝ }
 {
     let mut i: usize = 0;
     while i < n {
         let row = rows[i];
-        let m = canonical_at(ids, row.id_start, row.id_len, texts, i);
-        if m == 0 {
+        let made = canonical_at(ids, row.id_start, row.id_len, texts, i);
+        let len = made.length;
+        if len == 0 {
             return i;
         }
-        lens[i] = m;
+        lens[i] = len;
+        keys[i] = made.key;
         i += 1;
     }
     i
@@ -254,11 +262,14 @@ pub fn slot<'a, 'b>(texts: &'a [u8], lens: &'b [usize], k: usize) -> &'a [u8]
     &texts[a..e]
 }
 
-// Of the texts of slots j and i: the same meaning, where `twice`; else mixed feature names.
-fn related(twice: bool, texts: &[u8], lens: &[usize], j: usize, i: usize) -> bool
-    requires { ⌜ (j < i) × Texts idRules (now texts) (now lens) (i + 1) ⌝ }
+// Of the texts of slots j and i: the same meaning, where `twice`; else mixed feature names. Texts whose numbers differ are in no relation.
+fn related(twice: bool, texts: &[u8], lens: &[usize], keys: &[u64], j: usize, i: usize) -> bool
+    requires { ⌜ (j < i) × Texts idRules (now texts) (now lens) (now keys) (i + 1) ⌝ }
     ensures { λ r. ⌜ r ≡ relation idRules twice (text (now (texts .entry)) (now (lens .entry)) j) (text (now (texts .entry)) (now (lens .entry)) i) ⌝ }
 {
+    if keys[j] != keys[i] {
+        return false;
+    }
     let a = slot(texts, lens, j);
     let b = slot(texts, lens, i);
     if twice {
@@ -267,14 +278,51 @@ fn related(twice: bool, texts: &[u8], lens: &[usize], j: usize, i: usize) -> boo
     canonical_form::mixed(a, b)
 }
 
-// The first slot before i whose text stands in the relation to that of slot i, or i.
-fn related_before(twice: bool, texts: &[u8], lens: &[usize], i: usize) -> usize
-    requires { ⌜ Texts idRules (now texts) (now lens) (i + 1) ⌝ }
-    ensures { λ r. ⌜ r ≡ first i (λ j. relation idRules twice (text (now (texts .entry)) (now (lens .entry)) j) (text (now (texts .entry)) (now (lens .entry)) i)) ⌝ }
+// The first slot with the number of slot i, or i.
+fn near_at(keys: &[u64], i: usize) -> usize
+    requires { ⌜ i < length (now keys) ⌝ }
+    ensures { λ r. ⌜ r ≡ near (now (keys .entry)) i ⌝ }
 {
+    let key = keys[i];
     let mut j: usize = 0;
     while j < i {
-        if related(twice, texts, lens, j, i) {
+        if keys[j] == key {
+            return j;
+        }
+        j += 1;
+    }
+    j
+}
+
+// That, of n slots.
+fn nears(keys: &[u64], n: usize) -> [usize; 64]
+    requires { ⌜ (n ≤ 64) × (n ≤ length (now keys)) ⌝ }
+    ensures { λ r. ⌜ (length r ≡ 64) × ((k : ℕ) → k < n → getD r k 0 ≡ near (now (keys .entry)) k) ⌝ }
+{
+    let mut found = [0usize; 64];
+    let mut k: usize = 0;
+    while k < n {
+        found[k] = near_at(keys, k);
+        k += 1;
+    }
+    found
+}
+
+// The first slot before i whose text stands in the relation to that of slot i, or i. None before `from` has the number of slot i.
+fn related_before(
+    twice: bool,
+    texts: &[u8],
+    lens: &[usize],
+    keys: &[u64],
+    from: usize,
+    i: usize,
+) -> usize
+    requires { ⌜ Texts idRules (now texts) (now lens) (now keys) (i + 1) × (from ≡ near (now keys) i) ⌝ }
+    ensures { λ r. ⌜ r ≡ first i (λ j. relation idRules twice (text (now (texts .entry)) (now (lens .entry)) j) (text (now (texts .entry)) (now (lens .entry)) i)) ⌝ }
+{
+    let mut j = from;
+    while j < i {
+        if related(twice, texts, lens, keys, j, i) {
             return j;
         }
         j += 1;
@@ -283,19 +331,49 @@ fn related_before(twice: bool, texts: &[u8], lens: &[usize], i: usize) -> usize
 }
 
 // 7 TWICE or 8 MIXED: the first of n slots to whose text an earlier one stands in the relation, or n.
-fn first_related(twice: bool, texts: &[u8], lens: &[usize], n: usize) -> usize
-    requires { ⌜ Texts idRules (now texts) (now lens) n ⌝ }
+fn first_related(
+    twice: bool,
+    texts: &[u8],
+    lens: &[usize],
+    keys: &[u64],
+    froms: &[usize; 64],
+    n: usize,
+) -> usize
+    requires { ⌜ Texts idRules (now texts) (now lens) (now keys) n × (n ≤ 64) × ((k : ℕ) → k < n → getD (now froms) k 0 ≡ near (now keys) k) ⌝ }
     ensures { λ r. ⌜ r ≡ first n (earlier (relation idRules twice) (text (now (texts .entry)) (now (lens .entry)))) ⌝ }
 {
     let mut later: usize = 0;
     while later < n {
-        let found = related_before(twice, texts, lens, later);
+        let found = related_before(twice, texts, lens, keys, froms[later], later);
         if found < later {
             return later;
         }
         later += 1;
     }
     later
+}
+
+fn refused(number: usize, place: usize) -> Refusal
+    ensures { λ r. ⌜ r ≡ record { number = number; place = place } ⌝ }
+{
+    Refusal { number, place }
+}
+
+// 7 and 8: the first that refuses n slots; else 0.
+fn compare(texts: &[u8], lens: &[usize], keys: &[u64], n: usize) -> Refusal
+    requires { ⌜ Texts idRules (now texts) (now lens) (now keys) n × (n ≤ 64) ⌝ }
+    ensures { λ r. ⌜ stop (r .number) (r .place) ≡ stopAt 7 n (earlier (relation idRules true) (text (now (texts .entry)) (now (lens .entry)))) ⨾ stopAt 8 n (earlier (relation idRules false) (text (now (texts .entry)) (now (lens .entry)))) ⌝ }
+{
+    let froms = nears(keys, n);
+    let twice = first_related(true, texts, lens, keys, &froms, n);
+    if twice < n {
+        return refused(7, twice);
+    }
+    let mix = first_related(false, texts, lens, keys, &froms, n);
+    if mix < n {
+        return refused(8, mix);
+    }
+    refused(0, 0)
 }
 
 // 5 to 8: the first that refuses n rows, in a container of `len` bytes whose table ends at `end`; else 0.
@@ -307,42 +385,20 @@ fn judge(
     len: usize,
     texts: &mut [u8],
     lens: &mut [usize],
+    keys: &mut [u64],
 ) -> Refusal
-    requires { ⌜ IdsIn (now ids) n rows × Room (now texts) (now lens) ⌝ }
-    ensures { λ r. ⌜ Judged idRules (rowsStop idRules end len n (rowsOf (now (ids .entry)) rows)) (rowsOf (now (ids .entry)) rows) n (now (texts .exit)) (now (lens .exit)) (r .number) (r .place) ⌝ }
+    requires { ⌜ IdsIn (now ids) n rows × Room n (now texts) (now lens) (now keys) ⌝ }
+    ensures { λ r. ⌜ (stop (r .number) (r .place) ≡ rowsStop idRules end len n (rowsOf (now (ids .entry)) rows)) × Formed idRules (rowsOf (now (ids .entry)) rows) (first n (λ i. badId idRules (rowsOf (now (ids .entry)) rows i))) (now (texts .entry)) (now (lens .entry)) (now (keys .entry)) (now (texts .exit)) (now (lens .exit)) (now (keys .exit)) ⌝ }
 {
-    let bad_id = canonicals(ids, rows, n, texts, lens);
-    let out = first_bad(false, rows, n, end, len);
+    let bad_id = canonicals(ids, rows, n, texts, lens, keys);
     if bad_id < n {
-        return Refusal {
-            number: 5,
-            place: bad_id,
-        };
+        return refused(5, bad_id);
     }
+    let out = first_bad(false, rows, n, end, len);
     if out < n {
-        return Refusal {
-            number: 6,
-            place: out,
-        };
+        return refused(6, out);
     }
-    let twice = first_related(true, texts, lens, n);
-    if twice < n {
-        return Refusal {
-            number: 7,
-            place: twice,
-        };
-    }
-    let mix = first_related(false, texts, lens, n);
-    if mix < n {
-        return Refusal {
-            number: 8,
-            place: mix,
-        };
-    }
-    Refusal {
-        number: 0,
-        place: 0,
-    }
+    compare(texts, lens, keys, n)
 }
 
 fn examine_records_in(
@@ -352,24 +408,19 @@ fn examine_records_in(
     len: usize,
     texts: &mut [u8],
     lens: &mut [usize],
+    keys: &mut [u64],
 ) -> Refusal
-    requires { ⌜ Room (now texts) (now lens) ⌝ }
-    ensures { λ r. ⌜ Judged idRules (recordsStop idRules (now (ids .entry)) len n rows) (rowsOf (now (ids .entry)) rows) n (now (texts .exit)) (now (lens .exit)) (r .number) (r .place) ⌝ }
+    requires { ⌜ Room 64 (now texts) (now lens) (now keys) ⌝ }
+    ensures { λ r. ⌜ (r ≡ examinedRecords idRules (now (ids .entry)) len n rows) × Formed idRules (rowsOf (now (ids .entry)) rows) (formsOfRecords idRules (now (ids .entry)) n rows) (now (texts .entry)) (now (lens .entry)) (now (keys .entry)) (now (texts .exit)) (now (lens .exit)) (now (keys .exit)) ⌝ }
 {
     if 64 < n {
-        return Refusal {
-            number: 3,
-            place: 0,
-        };
+        return refused(3, 0);
     }
     let bad = first_bad(true, rows, n, 0, ids.len());
     if bad < n {
-        return Refusal {
-            number: 4,
-            place: bad,
-        };
+        return refused(4, bad);
     }
-    judge(ids, rows, n, 0, len, texts, lens)
+    judge(ids, rows, n, 0, len, texts, lens, keys)
 }
 
 // 3 to 8 of n records, with IDs in `ids` and images in a buffer of `len` bytes: the first that refuses them; else 0, and the canonical IDs in their slots.
@@ -381,62 +432,68 @@ pub fn examine_records(
     texts: &mut [u8; 16384],
     lens: &mut [usize; 64],
 ) -> Refusal
-    ensures { λ r. ⌜ Judged idRules (recordsStop idRules (now (ids .entry)) len n rows) (rowsOf (now (ids .entry)) rows) n (now (texts .exit)) (now (lens .exit)) (r .number) (r .place) ⌝ }
+    ensures { λ r. ⌜ r ≡ examinedRecords idRules (now (ids .entry)) len n rows ⌝ }
+    ensures { λ _. ⌜ now (texts .exit) ≡ slots (now (texts .entry)) (formsOfRecords idRules (now (ids .entry)) n rows) (form idRules (rowsOf (now (ids .entry)) rows)) ⌝ }
+    ensures { λ _. ⌜ now (lens .exit) ≡ filled (now (lens .entry)) (formsOfRecords idRules (now (ids .entry)) n rows) (formLength idRules (rowsOf (now (ids .entry)) rows)) ⌝ }
 {
-    examine_records_in(ids, rows, n, len, texts, lens)
+    let mut keys = [0u64; 64];
+    examine_records_in(ids, rows, n, len, texts, lens, &mut keys)
 }
 
-fn examine_in(s: &[u8], texts: &mut [u8], lens: &mut [usize]) -> Examined
-    requires { ⌜ Room (now texts) (now lens) ⌝ }
-    ensures { λ r. ⌜ Examination idRules (now (s .entry)) (now (texts .exit)) (now (lens .exit)) (r .number) (r .place) (r .count) (r .rows) ⌝ }
+fn not_examined(number: usize, place: usize) -> Examined
+    ensures { λ r. ⌜ r ≡ record { number = number; place = place; count = 0; rows = replicate 64 noRecord } ⌝ }
+{
+    Examined {
+        number,
+        place,
+        count: 0,
+        rows: no_records(),
+    }
+}
+
+fn examine_in(s: &[u8], texts: &mut [u8], lens: &mut [usize], keys: &mut [u64]) -> Examined
+    requires { ⌜ (count (now s) ≤ 64 → Room (count (now s)) (now texts) (now lens) (now keys)) ⌝ }
+    ensures { λ r. ⌜ (r ≡ examined idRules (now (s .entry))) × Formed idRules (row (now (s .entry))) (formsOf idRules (now (s .entry))) (now (texts .entry)) (now (lens .entry)) (now (keys .entry)) (now (texts .exit)) (now (lens .exit)) (now (keys .exit)) ⌝ }
 {
     let first = head(s);
     if 0 < first {
-        return Examined {
-            number: first,
-            place: 0,
-            count: 0,
-            rows: no_records(),
-        };
+        return not_examined(first, 0);
     }
     let n = wire::word8_at(s, 24) as usize;
     let t = read_table(s, n);
-    let rows = t.rows;
     let bad = t.bad;
     if bad < n {
-        return Examined {
-            number: 4,
-            place: bad,
-            count: 0,
-            rows: rows,
-        };
+        return not_examined(4, bad);
     }
-    let r = judge(s, rows, n, t.end, s.len(), texts, lens);
+    let rows = t.rows;
+    let r = judge(s, rows, n, t.end, s.len(), texts, lens, keys);
     let number = r.number;
-    let mut count = n;
     if 0 < number {
-        count = 0;
+        return not_examined(number, r.place);
     }
     Examined {
-        number: number,
+        number,
         place: r.place,
-        count: count,
-        rows: rows,
+        count: n,
+        rows,
     }
 }
 
 // 1 to 8 of a bundle: the first that refuses it; else its count and rows, with the canonical IDs in their slots.
 pub fn examine(bundle: &[u8], texts: &mut [u8; 16384], lens: &mut [usize; 64]) -> Examined
-    ensures { λ r. ⌜ Examination idRules (now (bundle .entry)) (now (texts .exit)) (now (lens .exit)) (r .number) (r .place) (r .count) (r .rows) ⌝ }
+    ensures { λ r. ⌜ r ≡ examined idRules (now (bundle .entry)) ⌝ }
+    ensures { λ _. ⌜ now (texts .exit) ≡ slots (now (texts .entry)) (formsOf idRules (now (bundle .entry))) (form idRules (row (now (bundle .entry)))) ⌝ }
+    ensures { λ _. ⌜ now (lens .exit) ≡ filled (now (lens .entry)) (formsOf idRules (now (bundle .entry))) (formLength idRules (row (now (bundle .entry)))) ⌝ }
 {
-    examine_in(bundle, texts, lens)
+    let mut keys = [0u64; 64];
+    examine_in(bundle, texts, lens, &mut keys)
 }
 
-fn check_in(s: &[u8], texts: &mut [u8], lens: &mut [usize]) -> Checked
-    requires { ⌜ Room (now texts) (now lens) ⌝ }
+fn check_in(s: &[u8], texts: &mut [u8], lens: &mut [usize], keys: &mut [u64]) -> Checked
+    requires { ⌜ (count (now s) ≤ 64 → Room (count (now s)) (now texts) (now lens) (now keys)) ⌝ }
     ensures { λ r. ⌜ r ≡ check idRules (now (s .entry)) ⌝ }
 {
-    let e = examine_in(s, texts, lens);
+    let e = examine_in(s, texts, lens, keys);
     Checked {
         number: e.number,
         place: e.place,
@@ -444,31 +501,53 @@ fn check_in(s: &[u8], texts: &mut [u8], lens: &mut [usize]) -> Checked
     }
 }
 
-// The check of a bundle.
+// The check of a bundle. Few entries need little scratch.
 pub fn check(bundle: &[u8]) -> Checked
     ensures { λ r. ⌜ r ≡ check idRules (now (bundle .entry)) ⌝ }
 {
-    let mut texts = [0u8; 16384];
     let mut lens = [0usize; 64];
-    check_in(bundle, &mut texts, &mut lens)
+    let mut keys = [0u64; 64];
+    if wire::word8_at(bundle, 24) <= 8 {
+        let mut few = [0u8; 2048];
+        return check_in(bundle, &mut few, &mut lens, &mut keys);
+    }
+    let mut texts = [0u8; 16384];
+    check_in(bundle, &mut texts, &mut lens, &mut keys)
 }
 
-// The text of slot k is compatible with the device name, which is canonical.
-fn compatible_at(texts: &[u8], lens: &[usize], k: usize, name: &[u8]) -> bool
-    requires { ⌜ Texts idRules (now texts) (now lens) (k + 1) × Canonical idRules (now name) ⌝ }
+// The text of slot k is compatible with the device name, which is canonical and has the number `key`. Texts whose numbers differ are not.
+fn compatible_at(
+    texts: &[u8],
+    lens: &[usize],
+    keys: &[u64],
+    k: usize,
+    name: &[u8],
+    key: u64,
+) -> bool
+    requires { ⌜ Texts idRules (now texts) (now lens) (now keys) (k + 1) × Canonical idRules (now name) × (key ≡ headKey (now name)) ⌝ }
     ensures { λ r. ⌜ r ≡ idRules .compatible (text (now (texts .entry)) (now (lens .entry)) k) (now (name .entry)) ⌝ }
 {
+    if keys[k] != key {
+        return false;
+    }
     canonical_form::compatible(slot(texts, lens, k), name)
 }
 
 // The first of n slots whose text is compatible with the device name, or n.
-fn first_compatible(texts: &[u8], lens: &[usize], n: usize, name: &[u8]) -> usize
-    requires { ⌜ Texts idRules (now texts) (now lens) n × Canonical idRules (now name) ⌝ }
+fn first_compatible(
+    texts: &[u8],
+    lens: &[usize],
+    keys: &[u64],
+    n: usize,
+    name: &[u8],
+    key: u64,
+) -> usize
+    requires { ⌜ Texts idRules (now texts) (now lens) (now keys) n × Canonical idRules (now name) × (key ≡ headKey (now name)) ⌝ }
     ensures { λ r. ⌜ r ≡ first n (λ k. idRules .compatible (text (now (texts .entry)) (now (lens .entry)) k) (now (name .entry))) ⌝ }
 {
     let mut k: usize = 0;
     while k < n {
-        if compatible_at(texts, lens, k, name) {
+        if compatible_at(texts, lens, keys, k, name, key) {
             return k;
         }
         k += 1;
@@ -489,21 +568,29 @@ fn no_image(number: usize, place: usize) -> Picked
     }
 }
 
-fn pick_in(s: &[u8], device: &[u8], texts: &mut [u8], lens: &mut [usize], name: &mut [u8]) -> Picked
-    requires { ⌜ Room (now texts) (now lens) × (length (now name) ≡ 256) ⌝ }
+fn pick_in(
+    s: &[u8],
+    device: &[u8],
+    texts: &mut [u8],
+    lens: &mut [usize],
+    keys: &mut [u64],
+    name: &mut [u8],
+) -> Picked
+    requires { ⌜ (count (now s) ≤ 64 → Room (count (now s)) (now texts) (now lens) (now keys)) × (length (now name) ≡ 256) ⌝ }
     ensures { λ r. ⌜ r ≡ pick idRules (now (s .entry)) (now (device .entry)) ⌝ }
 {
-    let e = examine_in(s, texts, lens);
+    let e = examine_in(s, texts, lens, keys);
     let number = e.number;
     if 0 < number {
         return no_image(number, e.place);
     }
-    let len = canonical_form::canonical(device, name);
+    let made = canonical_form::canonical(device, name);
+    let len = made.length;
     if len == 0 {
         return no_image(9, 0);
     }
     let n = e.count;
-    let i = first_compatible(texts, lens, n, &name[..len]);
+    let i = first_compatible(texts, lens, keys, n, &name[..len], made.key);
     if n <= i {
         return no_image(10, 0);
     }
@@ -518,12 +605,17 @@ fn pick_in(s: &[u8], device: &[u8], texts: &mut [u8], lens: &mut [usize], name: 
     }
 }
 
-// The pick of an image from a bundle by a device name.
+// The pick of an image from a bundle by a device name. Few entries need little scratch.
 pub fn pick(bundle: &[u8], device: &[u8]) -> Picked
     ensures { λ r. ⌜ r ≡ pick idRules (now (bundle .entry)) (now (device .entry)) ⌝ }
 {
-    let mut texts = [0u8; 16384];
     let mut lens = [0usize; 64];
+    let mut keys = [0u64; 64];
     let mut name = [0u8; 256];
-    pick_in(bundle, device, &mut texts, &mut lens, &mut name)
+    if wire::word8_at(bundle, 24) <= 8 {
+        let mut few = [0u8; 2048];
+        return pick_in(bundle, device, &mut few, &mut lens, &mut keys, &mut name);
+    }
+    let mut texts = [0u8; 16384];
+    pick_in(bundle, device, &mut texts, &mut lens, &mut keys, &mut name)
 }

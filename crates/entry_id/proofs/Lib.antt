@@ -6,3 +6,4 @@ pub mod CanonicalLaws
 pub mod Theorems
 pub mod ExamplesProof
 pub mod RuleLaws
+pub mod KeyLaws

@@ -41,7 +41,7 @@ same-length c = search needs
 returns : tie.Need-returns
 returns c = let a = c .before .before .before .before .before .before .before .args in
     let m = c .before .before .canonical in
-    made-slot (a .s .now) (a .texts .now) (m .last .1 .0) (a .start) (a .len) (a .start + a .len - a .start) (a .i) (a .i * 256 + 256 - a .i * 256) (m .result) (omega arith) (omega arith) (omega arith) (record { size = m .ensures .0; text = m .ensures .1 })
+    made-slot (a .s .now) (a .texts .now) (m .last .1 .0) (a .start) (a .len) (a .start + a .len - a .start) (a .i) (a .i * 256 + 256 - a .i * 256) (m .result) (omega arith) (omega arith) (omega arith) (record { form-is = m .ensures .0; text = m .ensures .1 })
 
 pub canonical-at-spec : {M : Type 1} → statement M
 canonical-at-spec =

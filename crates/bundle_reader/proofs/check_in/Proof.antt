@@ -1,8 +1,8 @@
+use Rattle.entry_id.specs.Rules.{idRules}
+use Rattle.bundle_reader.proofs.StageLaws.{checked}
 use borrow.Author.Needs.{needs}
 use Rattle.bundle_reader.proofs.check_in.Statement.{statement}
 use Rattle.bundle_reader.proofs.check_in.Tie as tie
-use Rattle.bundle_reader.proofs.StageLaws.{checked}
-use Rattle.entry_id.specs.Rules.{idRules}
 
 examine-in-requires : tie.Need-examine-in-requires
 examine-in-requires c κs = search needs
@@ -13,8 +13,12 @@ same-length c = search needs
 same-length-2 : tie.Need-same-length-2
 same-length-2 c = search needs
 
+same-length-3 : tie.Need-same-length-3
+same-length-3 c = search needs
+
 returns : tie.Need-returns
-returns c = checked idRules _ _ _ _ _ _ _ (c .before .before .before .before .examine-in .ensures)
+returns c = checked idRules _ _ (c .before .before .before .before .before .before .examine-in .ensures .0)
 
 pub check-in-spec : {M : Type 1} → statement M
-check-in-spec = tie.close (tie.spec examine-in-requires same-length same-length-2 returns)
+check-in-spec =
+    tie.close (tie.spec examine-in-requires same-length same-length-2 same-length-3 returns)

@@ -1,27 +1,27 @@
-use Rattle.bundle_reader.proofs.first_compatible.Statement.{statement}
-use Rattle.bundle_reader.proofs.first_compatible.Tie as tie
+use borrow.Author.Needs.{needs}
 use mathlib.Core.Path.{_≡_, sym, _∙_}
 use native.Mathlib.Omega.{arith}
 use Prim.Native.Nat.{ℕ, _-_, _≤_, _<_}
-use borrow.Author.Needs.{needs}
 use borrow.Author.Count.{below-more, below-none}
 use mathlib.Core.Bool.{false}
-use Rattle.entry_id.specs.Rules.{idRules}
-use Rattle.bundle.specs.Records.{text}
 use Rattle.wire.proofs.FirstLaws.{first-is, first-none}
+use Rattle.entry_id.specs.Rules.{idRules}
+use Rattle.bundle_reader.specs.Examined.{text}
+use Rattle.bundle_reader.proofs.first_compatible.Statement.{statement}
+use Rattle.bundle_reader.proofs.first_compatible.Tie as tie
 
 abbrev Inv-loop : tie.InvT-loop
-Inv-loop texts lens n name k₀ k = (k ≤ n) × ((j : ℕ) → j < k → idRules .compatible (text texts lens j) name ≡ false)
+Inv-loop texts lens keys n name key k₀ k = (k ≤ n) × ((j : ℕ) → j < k → idRules .compatible (text texts lens j) name ≡ false)
 
 abbrev μ-loop : tie.MeasureT-loop
-μ-loop texts lens n name k₀ k = n - k
+μ-loop texts lens keys n name key k₀ k = n - k
 
 loop-holds : tie.Need-loop-holds Inv-loop μ-loop
 loop-holds c = (omega arith, below-none _)
 
 compatible-at-requires : tie.Need-compatible-at-requires Inv-loop μ-loop
-compatible-at-requires c κs = let p = c .before .before .before .before .before .pre in
-    ((λ k l. p .0 k (omega arith)), p .1)
+compatible-at-requires c κs = let p = c .before .before .before .before .before .before .pre in
+    (record { numbers = omega (arith, p .0 .numbers); each = λ k l. p .0 .each k (omega arith) }, p .1, p .2)
 
 returns : tie.Need-returns Inv-loop μ-loop
 returns c = let l = c .before .before .before .loop in
@@ -39,7 +39,7 @@ loop-again c = let l = c .before .before .before .loop in
 
 returns-2 : tie.Need-returns-2 Inv-loop μ-loop
 returns-2 c = let l = c .before .loop in
-    let e : l .k ≡ c .before .before .before .before .before .args .n = omega arith in
+    let e : l .k ≡ c .before .before .before .before .before .before .args .n = omega arith in
     e ∙ sym (first-none _ _ (λ k h. l .inv .1 k (omega arith)))
 
 pub first-compatible-spec : {M : Type 1} → statement M

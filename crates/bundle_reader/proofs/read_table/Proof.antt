@@ -1,13 +1,13 @@
 use Rattle.bundle_reader.proofs.read_table.Statement.{statement}
 use Rattle.bundle_reader.proofs.read_table.Tie as tie
 use native.Mathlib.Omega.{arith}
-use mathlib.Core.Path.{_≡_, refl, ap, _∙_}
+use mathlib.Core.Path.{_≡_, refl}
 use Prim.Native.Nat.{_-_, _≤_}
 use borrow.Author.Needs.{needs}
 use borrow.Author.Count.{below-none}
-use lib.ListN.{length, length-replicate}
+use lib.ListN.{length}
+use Rattle.bundle_reader.specs.Examined.{rowsIn, filled}
 use Rattle.bundle.specs.Table.{rowStart}
-use Rattle.bundle.specs.Records.{noRecord}
 use Rattle.bundle_reader.specs.Slots.{Rows}
 use Rattle.bundle_reader.proofs.RowLaws.{fine, row-next, rows-more, row-inside, tabled-bad, tabled-all}
 
@@ -21,8 +21,8 @@ no-records-requires : tie.Need-no-records-requires Inv-loop μ-loop
 no-records-requires c κs = search needs
 
 loop-holds : tie.Need-loop-holds Inv-loop μ-loop
-unfolding rowStart
-loop-holds c = (omega arith, refl, omega arith, record { few = omega arith; room = ap length (c .no-records .ensures) ∙ length-replicate 64 noRecord; fits = below-none _; each = below-none _ })
+unfolding rowStart rowsIn filled
+loop-holds c = (omega arith, refl, omega arith, record { few = omega arith; fits = below-none _; are = c .no-records .ensures })
 
 bad-row-requires : tie.Need-bad-row-requires Inv-loop μ-loop
 bad-row-requires c κs = search needs

@@ -1,24 +1,27 @@
-use Rattle.bundle_reader.proofs.related_before.Statement.{statement}
-use Rattle.bundle_reader.proofs.related_before.Tie as tie
+use borrow.Author.Needs.{needs}
 use mathlib.Core.Path.{_≡_, sym, _∙_}
 use native.Mathlib.Omega.{arith}
 use Prim.Native.Nat.{ℕ, _-_, _≤_, _<_}
-use borrow.Author.Needs.{needs}
-use borrow.Author.Count.{below-more, below-none}
+use borrow.Author.Count.{below-more}
 use mathlib.Core.Bool.{false}
-use Rattle.entry_id.specs.Rules.{idRules}
-use Rattle.bundle.specs.Records.{text}
-use Rattle.bundle_reader.specs.Slots.{relation}
 use Rattle.wire.proofs.FirstLaws.{first-is, first-none}
+use Rattle.entry_id.specs.Rules.{idRules}
+use Rattle.bundle_reader.specs.Examined.{text}
+use Rattle.bundle_reader.specs.Slots.{relation}
+use Rattle.bundle_reader.proofs.IdLaws.{near-le, unrelated-before}
+use Rattle.bundle_reader.proofs.related_before.Statement.{statement}
+use Rattle.bundle_reader.proofs.related_before.Tie as tie
 
 abbrev Inv-loop : tie.InvT-loop
-Inv-loop twice texts lens i j₀ j = (j ≤ i) × ((k : ℕ) → k < j → relation idRules twice (text texts lens k) (text texts lens i) ≡ false)
+Inv-loop twice texts lens keys from i j₀ j = (j ≤ i) × ((k : ℕ) → k < j → relation idRules twice (text texts lens k) (text texts lens i) ≡ false)
 
 abbrev μ-loop : tie.MeasureT-loop
-μ-loop twice texts lens i j₀ j = i - j
+μ-loop twice texts lens keys from i j₀ j = i - j
 
 loop-holds : tie.Need-loop-holds Inv-loop μ-loop
-loop-holds c = (omega arith, below-none _)
+loop-holds c = let a = c .before .before .before .args in
+    let q = c .before .before .before .pre in
+    (omega (arith, q .1, near-le (a .keys .now) (a .i)), λ k h. unrelated-before (a .twice) (a .texts .now) (a .lens .now) (a .keys .now) (a .i) (q .0) k (omega (arith, q .1)))
 
 related-requires : tie.Need-related-requires Inv-loop μ-loop
 related-requires c κs = search needs
@@ -39,7 +42,7 @@ loop-again c = let l = c .before .before .before .loop in
 
 returns-2 : tie.Need-returns-2 Inv-loop μ-loop
 returns-2 c = let l = c .before .loop in
-    let e : l .j ≡ c .before .before .before .before .args .i = omega arith in
+    let e : l .j ≡ c .before .before .before .before .before .args .i = omega arith in
     e ∙ sym (first-none _ _ (λ k h. l .inv .1 k (omega arith)))
 
 pub related-before-spec : {M : Type 1} → statement M

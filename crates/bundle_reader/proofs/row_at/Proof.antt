@@ -1,7 +1,7 @@
 use borrow.Author.Needs.{needs}
 use Rattle.bundle_reader.proofs.row_at.Statement.{statement}
 use Rattle.bundle_reader.proofs.row_at.Tie as tie
-use Rattle.bundle_reader.specs.Slots.{heldRow}
+use Rattle.bundle_reader.specs.Examined.{heldRow}
 
 word8-at-requires : tie.Need-word8-at-requires
 word8-at-requires c κs = search needs

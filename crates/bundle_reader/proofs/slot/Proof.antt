@@ -3,7 +3,7 @@ use mathlib.Core.Path.{_≡_, sym, ap, _∙_}
 use Prim.Native.Nat.{_+_, _*_, _-_}
 use lib.ListN.{length, getD, take, drop, length-drop, drop-of-length-le, List·getD-eq-default}
 use lib.Seq.{take-all, take-nil}
-use Rattle.bundle.specs.Records.{text}
+use Rattle.bundle_reader.specs.Examined.{text}
 use borrow.Author.Needs.{needs}
 use Rattle.bundle_reader.proofs.slot.Statement.{statement}
 use Rattle.bundle_reader.proofs.slot.Tie as tie
