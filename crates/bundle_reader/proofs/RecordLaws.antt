@@ -103,14 +103,14 @@ all-made R ids len n rows y =
           ∙ first-none n (λ i. badId R (rowsOf ids rows i)) (stopAt-no 4 n _ five),
     )
 
--- what examining records leaves
-pub judged-records : (R : IdRules) → Lawful R → (ids : List ℕ) (len n : ℕ) (rows : List EntryRecord) (texts₀ lens₀ texts lens : List ℕ) (r : Refusal)
-    → r ≡ examinedRecords R ids len n rows
-    → texts ≡ slots texts₀ (formsOfRecords R ids n rows) (form R (rowsOf ids rows)) → lens ≡ filled lens₀ (formsOfRecords R ids n rows) (formLength R (rowsOf ids rows))
-    → length texts₀ ≡ 16384 → length lens₀ ≡ 64
+-- what `examine_records` promises, in these words
+pub records-say : (R : IdRules) → Lawful R → (ids : List ℕ) (len n : ℕ) (rows : List EntryRecord) (texts₀ lens₀ texts lens : List ℕ) (r : Refusal)
+    → (r ≡ examinedRecords R ids len n rows)
+    × ((texts ≡ slots texts₀ (formsOfRecords R ids n rows) (form R (rowsOf ids rows)))
+    × ((lens ≡ filled lens₀ (formsOfRecords R ids n rows) (formLength R (rowsOf ids rows))) × ((length texts₀ ≡ 16384) × (length lens₀ ≡ 64))))
     → Judged R (recordsStop R ids len n rows) (rowsOf ids rows) n texts lens (r .number) (r .place)
 unfolding examinedRecords
-judged-records R L ids len n rows texts₀ lens₀ texts lens r e te le a b =
+records-say R L ids len n rows texts₀ lens₀ texts lens r (e, (te, (le, (a, b)))) =
     let q : stop (r .number) (r .place) ≡ recordsStop R ids len n rows = ap (λ (z : Refusal). stop (z .number) (z .place)) e in
     record {
       stop-is = q;

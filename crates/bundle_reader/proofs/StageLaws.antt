@@ -237,3 +237,9 @@ pub examination-of : (R : IdRules) → Lawful R → (s texts₀ lens₀ keys₀ 
     → Examination R s texts lens (e .number) (e .place) (e .count) (e .rows)
 examination-of R L s texts₀ lens₀ keys₀ texts lens keys e f room =
     examination R L s texts₀ lens₀ texts lens e (f .0) (f .1 .texts-are) (f .1 .lens-are) (λ h. (room h .texts-room, room h .lens-room))
+
+-- what `examine` promises, in these words
+pub examine-says : (R : IdRules) → Lawful R → (s texts₀ lens₀ texts lens : List ℕ) (e : Examined)
+    → (e ≡ examined R s) × ((texts ≡ slots texts₀ (formsOf R s) (form R (row s))) × ((lens ≡ filled lens₀ (formsOf R s) (formLength R (row s))) × ((length texts₀ ≡ 16384) × (length lens₀ ≡ 64))))
+    → Examination R s texts lens (e .number) (e .place) (e .count) (e .rows)
+examine-says R L s texts₀ lens₀ texts lens e (q, (te, (le, (a, b)))) = examination R L s texts₀ lens₀ texts lens e q te le (λ h. (omega arith, omega arith))

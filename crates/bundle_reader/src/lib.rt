@@ -435,6 +435,7 @@ pub fn examine_records(
     ensures { λ r. ⌜ r ≡ examinedRecords idRules (now (ids .entry)) len n rows ⌝ }
     ensures { λ _. ⌜ now (texts .exit) ≡ slots (now (texts .entry)) (formsOfRecords idRules (now (ids .entry)) n rows) (form idRules (rowsOf (now (ids .entry)) rows)) ⌝ }
     ensures { λ _. ⌜ now (lens .exit) ≡ filled (now (lens .entry)) (formsOfRecords idRules (now (ids .entry)) n rows) (formLength idRules (rowsOf (now (ids .entry)) rows)) ⌝ }
+    ensures { λ _. ⌜ (length (now (texts .entry)) ≡ 16384) × (length (now (lens .entry)) ≡ 64) ⌝ }
 {
     let mut keys = [0u64; 64];
     examine_records_in(ids, rows, n, len, texts, lens, &mut keys)
@@ -484,6 +485,7 @@ pub fn examine(bundle: &[u8], texts: &mut [u8; 16384], lens: &mut [usize; 64]) -
     ensures { λ r. ⌜ r ≡ examined idRules (now (bundle .entry)) ⌝ }
     ensures { λ _. ⌜ now (texts .exit) ≡ slots (now (texts .entry)) (formsOf idRules (now (bundle .entry))) (form idRules (row (now (bundle .entry)))) ⌝ }
     ensures { λ _. ⌜ now (lens .exit) ≡ filled (now (lens .entry)) (formsOf idRules (now (bundle .entry))) (formLength idRules (row (now (bundle .entry)))) ⌝ }
+    ensures { λ _. ⌜ (length (now (texts .entry)) ≡ 16384) × (length (now (lens .entry)) ≡ 64) ⌝ }
 {
     let mut keys = [0u64; 64];
     examine_in(bundle, texts, lens, &mut keys)

@@ -10,7 +10,9 @@ use Rattle.entry_id.specs.IdRules.{IdRules, Lawful}
 use Rattle.bundle.specs.Lists.{tab}
 use Rattle.bundle.specs.Table.{Row}
 use Rattle.bundle.specs.Entry.{imageOf, entryOf, entriesOf}
-use Rattle.bundle.specs.Records.{rowOf, rowsOf, text, Held}
+use Rattle.bundle.specs.Records.{rowOf, rowsOf}
+use Rattle.bundle_reader.specs.Examined.{text}
+use Rattle.bundle_reader.specs.Slots.{Held}
 use Rattle.bundle.specs.Layout.{rowSize, packedEnd, packedLength}
 use Rattle.bundle.specs.Normal.{byId}
 use Rattle.bundle.specs.declared.EntryRecord.{EntryRecord}

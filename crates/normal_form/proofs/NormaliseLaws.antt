@@ -11,7 +11,8 @@ use Rattle.entry_id.specs.IdRules.{IdRules, Lawful}
 use Rattle.bundle.specs.Table.{count, row}
 use Rattle.bundle.specs.Check.{bundleStop}
 use Rattle.bundle.specs.Entry.{Entry, entries, entriesOf}
-use Rattle.bundle.specs.Records.{text, Examination}
+use Rattle.bundle_reader.specs.Examined.{text}
+use Rattle.bundle_reader.specs.Slots.{Examination}
 use Rattle.bundle.specs.Layout.{packedLength, encode}
 use Rattle.bundle.specs.Normal.{byId, roomStop, answer, output, normal, normalLength, normaliseStop, normalise, normalised}
 use Rattle.bundle.specs.Accepted.{Accepted}

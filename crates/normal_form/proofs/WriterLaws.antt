@@ -10,7 +10,8 @@ use Rattle.entry_id.specs.IdRules.{IdRules, Lawful}
 use Rattle.bundle.specs.Check.{limit, unrefused}
 use Rattle.bundle.specs.Accepted.{Sound}
 use Rattle.bundle.specs.Entry.{Entry, noEntry}
-use Rattle.bundle.specs.Records.{rowsOf, recordsStop, Judged}
+use Rattle.bundle.specs.Records.{rowsOf, recordsStop}
+use Rattle.bundle_reader.specs.Slots.{Judged}
 use Rattle.bundle.specs.Layout.{packedLength, encode, Writable, ReadsBack}
 use Rattle.bundle.specs.Normal.{roomStop, answer, output}
 use Rattle.bundle.specs.declared.EntryRecord.{EntryRecord}

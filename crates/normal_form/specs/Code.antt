@@ -11,7 +11,8 @@ use Rattle.bundle.specs.Lists.{tab}
 use Rattle.bundle.specs.Table.{Row}
 use Rattle.bundle.specs.Check.{limit}
 use Rattle.bundle.specs.Entry.{Entry, imageOf}
-use Rattle.bundle.specs.Records.{noRecord, recordAt, rowOf, text}
+use Rattle.bundle.specs.Records.{noRecord, recordAt, rowOf}
+use Rattle.bundle_reader.specs.Examined.{text}
 use Rattle.bundle.specs.Layout.{packedEnd, packedLength}
 use Rattle.bundle.specs.declared.EntryRecord.{EntryRecord}
 

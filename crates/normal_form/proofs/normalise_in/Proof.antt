@@ -3,6 +3,7 @@ use mathlib.Core.Path.{_≡_, _∙_}
 use lib.ListN.{length}
 use Rattle.entry_id.specs.Rules.{idRules}
 use Rattle.entry_id.proofs.RuleLaws.{idRules-lawful}
+use Rattle.bundle_reader.proofs.StageLaws.{examine-says}
 use Rattle.normal_form.proofs.NormaliseLaws.{refused-answer, refused-bytes, few, examined-placed, accepted-answer, accepted-bytes}
 use borrow.Author.Needs.{needs}
 use Rattle.normal_form.proofs.normalise_in.Statement.{statement}
@@ -17,16 +18,16 @@ refused-requires c κs = search needs
 returns : tie.Need-returns
 returns c =
     let a = c .before .before .before .before .before .before .before .args in
-    let x = c .before .before .examine .ensures in
+    let x = examine-says idRules idRules-lawful _ _ _ _ _ _ (c .before .before .examine .ensures) in
     (c .refused .ensures ∙ refused-answer idRules idRules-lawful _ _ _ _ _ _ _ x (a .out .now) (c .before .if1 .taken), refused-bytes idRules idRules-lawful _ _ _ _ _ _ _ x (a .out .now) (c .before .if1 .taken))
 
 order-of-requires : tie.Need-order-of-requires
-order-of-requires c κs = few idRules idRules-lawful _ _ _ _ _ _ _ (c .before .before .before .before .before .examine .ensures) (omega (arith, c .before .before .before .before .if1 .left))
+order-of-requires c κs = few idRules idRules-lawful _ _ _ _ _ _ _ (examine-says idRules idRules-lawful _ _ _ _ _ _ (c .before .before .before .before .before .examine .ensures)) (omega (arith, c .before .before .before .before .if1 .left))
 
 write-entries-requires : tie.Need-write-entries-requires
 write-entries-requires c κs =
     let o = c .before .before .before .before .before .before .order-of .ensures in
-    let x = c .before .before .before .before .before .before .before .before .before .before .before .before .examine .ensures in
+    let x = examine-says idRules idRules-lawful _ _ _ _ _ _ (c .before .before .before .before .before .before .before .before .before .before .before .before .examine .ensures) in
     let z : c .before .before .before .before .before .before .before .before .before .before .before .before .examine .result .number ≡ 0 = omega (arith, c .before .before .before .before .before .before .before .before .before .before .before .if1 .left) in
     examined-placed idRules idRules-lawful _ _ _ _ _ _ _ x z (omega arith) _ (omega (arith, o .0, few idRules idRules-lawful _ _ _ _ _ _ _ x z)) (o .1)
 
@@ -38,7 +39,7 @@ returns-2 c =
     let a = c .before .before .before .before .before .before .before .before .before .before .before .before .before .before .before .before .before .before .before .before .args in
     let w = c .before .before .write-entries .ensures in
     let o = c .before .before .before .before .before .before .before .before .before .order-of .ensures in
-    let x = c .before .before .before .before .before .before .before .before .before .before .before .before .before .before .before .examine .ensures in
+    let x = examine-says idRules idRules-lawful _ _ _ _ _ _ (c .before .before .before .before .before .before .before .before .before .before .before .before .before .before .before .examine .ensures) in
     let z : c .before .before .before .before .before .before .before .before .before .before .before .before .before .before .before .examine .result .number ≡ 0 = omega (arith, c .before .before .before .before .before .before .before .before .before .before .before .before .before .before .if1 .left) in
     let f = few idRules idRules-lawful _ _ _ _ _ _ _ x z in (
       w .0 ∙ accepted-answer idRules idRules-lawful _ _ _ _ _ _ _ x z (omega arith) _ (omega (arith, o .0, f)) (o .1) (length (a .out .now)),

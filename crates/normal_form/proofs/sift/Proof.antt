@@ -7,7 +7,7 @@ use lib.ListN.{length, take, drop, getD, length-set}
 use borrow.Author.Count.{below-more}
 use borrow.Author.Needs.{needs}
 use Rattle.wire.specs.Bytes.{before}
-use Rattle.bundle.specs.Records.{text}
+use Rattle.bundle_reader.specs.Examined.{text}
 use Rattle.normal_form.proofs.OrderLaws.{mid, mid-zero, mid-stop, mid-end, part-length, part-front, turn-next, turn-swap}
 use Rattle.normal_form.proofs.sift.Statement.{statement}
 use Rattle.normal_form.proofs.sift.Tie as tie

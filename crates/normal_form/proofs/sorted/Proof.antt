@@ -4,7 +4,7 @@ use Prim.Native.Nat.{_≤_, _-_, _+_}
 use lib.ListN.{length, take, drop, length-set}
 use lib.Seq.{getD-set-same}
 use Rattle.wire.specs.Order.{sortBy}
-use Rattle.bundle.specs.Records.{text}
+use Rattle.bundle_reader.specs.Examined.{text}
 use Rattle.normal_form.specs.Code.{upTo}
 use Rattle.normal_form.proofs.OrderLaws.{sorted-none, sorted-next}
 use Rattle.normal_form.proofs.sorted.Statement.{statement}
