@@ -27,8 +27,10 @@ fn llvm(folder: &str) {
     println!("cargo:rustc-check-cfg=cfg(llvm)");
     println!("cargo:rerun-if-env-changed=LLVM_CONFIG");
     let config = env::var("LLVM_CONFIG").unwrap_or("llvm-config-19".to_string());
-    let Ok(include) = Command::new(&config).arg("--includedir").output() else { return };
-    let include = String::from_utf8_lossy(&include.stdout).trim().to_string();
+    let include = match Command::new(&config).arg("--includedir").output() {
+        Ok(output) => String::from_utf8_lossy(&output.stdout).trim().to_string(),
+        Err(_) => return,
+    };
     if !std::path::Path::new(&include).join("llvm/Object/OffloadBinary.h").exists() {
         return;
     }

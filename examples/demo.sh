@@ -34,12 +34,21 @@ openmp-amdgcn-amd-amdhsa--gfx1030
 gfx1030
 DEVICES
 
+cat <<'TEXT'
+
+entry: which entry of the bundle fits the device; position and size: where its image lies in the file, in bytes.
+NONE:  no entry fits. An entry that states a feature (xnack, sramecc) is only for a device that states it too, with the same
+       sign: every gfx906 entry here states both, so a gfx906 that states neither gets none. An entry that states no feature
+       (gfx1030) fits whatever the device states. Kinds (hip, openmp) are equal or not.
+QUERY: not a device name. It is written like hip-amdgcn-amd-amdhsa--gfx906:sramecc+:xnack-.
+TEXT
+
 "$offload" normalise "$bundle" -o "$work/normal" >"$work/answer"
 "$offload" check "$work/normal" >"$work/accepted"
 "$offload" normalise "$work/normal" -o "$work/again" >"$work/answer"
 cmp "$work/normal" "$work/again"
 echo
-echo "Its normal form: $(<"$work/accepted"), length $(stat -c %s "$work/normal"); and it is its own normal form."
+echo "Its normal form (entries sorted, images packed, so that equal contents are equal files): $(<"$work/accepted"), length $(stat -c %s "$work/normal"); and it is its own normal form."
 
 cat <<TEXT
 

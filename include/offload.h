@@ -2,12 +2,14 @@
  *
  * Every call ends and touches only the bytes lent to it; only the normalise calls write, and only to their output. A call takes any bytes: nothing
  * need be checked first. The caller answers for two things that no call can see: each length is the true length of what its pointer points to,
- * and a lent output shares no byte with anything else lent. A length of 0 goes with any pointer that is not null.
+ * and a lent output shares no byte with anything else lent. A length of 0 goes with any pointer that is not null. A call keeps nothing between calls,
+ * takes no memory but its stack, below 64 KiB, and may run in several threads at once on the same bundle.
  *
  * A C call returns one number, so each number of an answer has a call of its own, which does the whole job. The calls of one family, given the
- * same bytes, speak of the same answer. On a refusal every number but OFFLOAD_..._number and .._place is 0; on OK the place is 0.
+ * same bytes, speak of the same answer. A refusal has its number and its place, and 0 in every other number; on OK the place is 0.
  *
- * Each function is proved to return the field of that name of the definitions `check`, `pick` and `normalise`. */
+ * Each function is proved to return the field of that name of the definitions `check`, `pick` and `normalise` (crates/bundle/specs), and the normalise
+ * calls to leave in the whole output what `normalised` says. Compressed bundles, text bundles and archives are no bundles here: MAGIC. */
 #ifndef OFFLOAD_H
 #define OFFLOAD_H
 

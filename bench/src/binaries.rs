@@ -1,10 +1,9 @@
 //! Reading offload binaries laid end to end.
 
-use crate::clock::{job, time, Whose};
+use crate::clock::{black_box, job, time, Whose};
 use crate::table::{self, digits, Table};
 use crate::{baseline_binaries, library, sample};
 use second::model::binaries as model;
-use std::hint::black_box;
 
 #[cfg(llvm)]
 mod llvm {

@@ -1,11 +1,10 @@
 //! Check, pick and normalise over bundles of 1 to 64 entries, and normalise over images of many sizes.
 
-use crate::clock::{job, time, Timed, Whose};
+use crate::clock::{black_box, job, time, Timed, Whose};
 use crate::table::{self, bytes, digits, Table};
 use crate::{baseline, library, sample};
 use second::model::bundle as model;
 use std::cell::RefCell;
-use std::hint::black_box;
 
 const IMAGE: usize = 2048;
 

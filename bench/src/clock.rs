@@ -1,10 +1,17 @@
 //! Times of several programs for one job, in turns. What counts is the processor's time, so that other work on the machine does not.
 
-use std::hint::black_box;
+use std::arch::asm;
 use std::time::Duration;
 
 /// A program under the clock: each call does the job once.
 pub type Job<'a> = Box<dyn FnMut() + 'a>;
+
+/// The value, of which the compiler must know nothing; `std::hint` has this from Rust 1.66 on.
+pub fn black_box<T>(value: T) -> T {
+    // SAFETY: no instruction at all; the compiler takes it for one that reads and writes the value.
+    unsafe { asm!("/* {0} */", in(reg) &value, options(nostack, preserves_flags)) };
+    value
+}
 
 /// The job of a function whose answer the compiler must not leave out.
 pub fn job<'a, T>(mut run: impl FnMut() -> T + 'a) -> Job<'a> {

@@ -20,7 +20,7 @@ impl<'a> Call<'a> {
 
     fn runs(&self) -> bool {
         let command = Command::new(self.program).args(&self.words).stdout(Stdio::null()).stderr(Stdio::null()).status();
-        command.is_ok_and(|status| status.success())
+        command.map_or(false, |status| status.success())
     }
 }
 
@@ -37,9 +37,9 @@ fn row(table: &Table, job: &str, entries: usize, timed: &[Timed]) {
 
 pub fn jobs(tool: &str, folder: &str) {
     let installed = ["clang-offload-bundler-19", "clang-offload-bundler"];
-    let Some(bundler) = installed.into_iter().find(|name| Call::new(name, &["--version"]).runs()) else {
-        println!("LLVM's bundler is not installed.\n");
-        return;
+    let bundler = match installed.into_iter().find(|name| Call::new(name, &["--version"]).runs()) {
+        Some(name) => name,
+        None => return println!("LLVM's bundler is not installed.\n"),
     };
     let table = Table::new(
         "The tool and LLVM's bundler",

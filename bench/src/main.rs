@@ -14,9 +14,12 @@ use std::process::{exit, Command};
 
 fn main() {
     let words: Vec<String> = std::env::args().collect();
-    let [_, tool, work] = words.as_slice() else {
-        eprintln!("bench TOOL FOLDER");
-        exit(2)
+    let (tool, work) = match words.as_slice() {
+        [_, tool, work] => (tool, work),
+        _ => {
+            eprintln!("bench TOOL FOLDER");
+            exit(2)
+        }
     };
     std::fs::create_dir_all(work).expect("a folder for files");
     println!("{}\n", machine());

@@ -24,15 +24,15 @@ struct Pages {
 
 impl Pages {
     fn new(capacity: usize) -> Pages {
-        let capacity = capacity.next_multiple_of(PAGE);
+        let capacity = (capacity + PAGE - 1) / PAGE * PAGE;
         let flags = MAP_PRIVATE | MAP_ANONYMOUS | MAP_NORESERVE;
         // SAFETY: new pages of its own; none of them is used before the two calls have succeeded.
         unsafe {
             let all = mmap(null_mut(), capacity + 2 * PAGE, PROT_NONE, flags, -1, 0);
             assert!(all as isize != -1, "mmap");
-            let base = all.byte_add(PAGE);
-            assert!(mprotect(base, capacity, PROT_READ_AND_WRITE) == 0, "mprotect");
-            Pages { base: base.cast(), capacity }
+            let base = all.cast::<u8>().add(PAGE);
+            assert!(mprotect(base.cast(), capacity, PROT_READ_AND_WRITE) == 0, "mprotect");
+            Pages { base, capacity }
         }
     }
 

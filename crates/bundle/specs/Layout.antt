@@ -95,6 +95,6 @@ pub record ReadsBack (R : IdRules) (es : List Entry) (s : List ℕ) : Type 0 whe
   pub checked : check R s ≡ record { number = 0; place = 0; count = length es }
   pub entries-back : entries R s ≡ es
 
--- "what we write reads back", in any layout
+-- what is laid out reads back, in any layout
 abbrev pub LayoutReadsBack : IdRules → Type 0
 LayoutReadsBack R = (es : List Entry) (rs : List Row) (body : List ℕ) → Layout es rs body → Writable R es → length (bundle rs body) ≤ limit → ReadsBack R es (bundle rs body)

@@ -100,7 +100,7 @@ headFields g =
     ∷ 2 ∶ g .imageKind ∷ 2 ∶ g .offloadKind ∷ 4 ∶ g .flags
     ∷ 8 ∶ 72 ∷ 8 ∶ length (g .strings) ∷ 8 ∶ imageStart g ∷ 8 ∶ length (g .image) ∷ []
 
--- "It puts the entry at 32, string pairs at 72, then each key and text in the given order with its zero, zero bytes to a multiple of 8, the image, and zero bytes to a multiple of 8."
+-- "It puts the entry at 32, string pairs at 72 .., then each key and text in the given order with its zero, zero bytes to a multiple of 8, the image, and zero bytes to a multiple of 8."
 unfoldable pub written : Contents → List ℕ
 written g =
     magic ++ (fieldBytes (headFields g)

@@ -38,7 +38,7 @@ module _ (tags : Tags) (image : List ℕ) (pairs : List StringPair) (buf : List 
   unfoldable pub given : Contents
   given = record { imageKind = tags .«image_kind»; offloadKind = tags .«offload_kind»; flags = tags .flags; image = image; strings = map (keyText buf) pairs }
 
-  -- "The binary writer checks 15, 16, 11, 12, all with place 0." 12 ROOM: "the lent output is shorter than the output".
+  -- "The binary writer checks 15, 16 .., 11, 12, all with place 0." 12 ROOM: "the lent output is shorter than the output".
   unfoldable pub writeStop : ℕ → Stop
   writeStop room =
       stopIf 15 (badKinds (tags .«image_kind») (tags .«offload_kind»))

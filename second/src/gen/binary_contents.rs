@@ -228,6 +228,6 @@ fn output_aims() -> Vec<ContentAim> {
 /// No pairs, and an image of this length, less up to 7 bytes that zero bytes make up for.
 fn output_length(case: &mut Case, random: &mut Random, image: usize) {
     *case = Case::good(random, 0);
-    let less = if image.is_multiple_of(8) { random.below(8) } else { 0 };
+    let less = if image % 8 == 0 { random.below(8) } else { 0 };
     case.zeros = image - less - case.image.len();
 }

@@ -503,13 +503,11 @@ fn composition_aims() -> Vec<BundleAim> {
             })
         }),
         check(MIXED, "a feature less", |draft, random| {
-            beside(draft, random, |meaning, _| {
-                meaning.features.pop_first();
-            })
+            beside(draft, random, |meaning, _| ids::drop_first_feature(meaning))
         }),
         check(MIXED, "another feature", |draft, random| {
             beside(draft, random, |meaning, _| {
-                meaning.features.pop_last();
+                ids::drop_last_feature(meaning);
                 meaning.features.insert(b"only_here".to_vec(), Sign::On);
             })
         }),
@@ -528,7 +526,7 @@ fn composition_aims() -> Vec<BundleAim> {
         check(OK, "another processor", |draft, random| {
             beside(draft, random, |meaning, random| {
                 meaning.processor.as_mut().expect("a processor").push(*random.choose(b"abc_."));
-                meaning.features.pop_first();
+                ids::drop_first_feature(meaning);
             })
         }),
     ]
@@ -584,7 +582,7 @@ fn device_aims() -> Vec<BundleAim> {
             let sign = device.features.values_mut().next().expect("a feature");
             *sign = ids::other_sign(*sign);
         }),
-        asks(NONE, "device: a feature less", |device, _| drop(device.features.pop_last())),
+        asks(NONE, "device: a feature less", |device, _| ids::drop_last_feature(device)),
         asks(NONE, "device: no feature", |device, _| device.features.clear()),
         asks(NONE, "device: another kind", |device, _| {
             device.kind = if device.kind == b"hip" { b"hipv4".to_vec() } else { b"hip".to_vec() };

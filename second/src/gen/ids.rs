@@ -49,6 +49,20 @@ pub fn other_sign(sign: Sign) -> Sign {
     }
 }
 
+pub fn drop_first_feature(meaning: &mut Meaning) {
+    let name = meaning.features.keys().next().cloned();
+    drop_feature(meaning, name);
+}
+
+pub fn drop_last_feature(meaning: &mut Meaning) {
+    let name = meaning.features.keys().next_back().cloned();
+    drop_feature(meaning, name);
+}
+
+fn drop_feature(meaning: &mut Meaning, name: Option<Vec<u8>>) {
+    meaning.features.remove(&name.expect("a feature"));
+}
+
 /// A meaning with no feature.
 pub fn target(random: &mut Random) -> Meaning {
     let has_processor = !random.one_in(3);

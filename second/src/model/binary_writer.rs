@@ -66,7 +66,7 @@ fn texts_end(texts: &[&[u8]]) -> u128 {
 }
 
 fn to_multiple_of_8(length: u128) -> u128 {
-    length.div_ceil(8) * 8
+    (length + 7) / 8 * 8
 }
 
 /// "It puts the entry at 32, string pairs at 72 .., then each key and text in the given order with its zero, zero bytes to a multiple of

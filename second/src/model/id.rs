@@ -83,10 +83,7 @@ fn is_field_byte(byte: &u8) -> bool {
 /// "Each piece after a `:` is a feature". "A name stated twice is refused".
 fn features(text: Option<&[u8]>) -> Option<BTreeMap<Vec<u8>, Sign>> {
     let mut features = BTreeMap::new();
-    let Some(text) = text else {
-        return Some(features);
-    };
-    for piece in text.split(|byte| *byte == b':') {
+    for piece in text.into_iter().flat_map(|text| text.split(|byte| *byte == b':')) {
         let (name, sign) = feature(piece)?;
         if features.insert(name.to_vec(), sign).is_some() {
             return None;
