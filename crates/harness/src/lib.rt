@@ -1,0 +1,56 @@
+// C calls of the reader and of both writers, for the comparison and the benchmark: include/offload.h has none of them.
+use bundle::EntryRecord;
+use offload_binaries::Cursor;
+ghost use mathlib.Core.Path.{_≡_};
+ghost use lib.ListN.{length};
+ghost use Rattle.entry_id.specs.Rules.{idRules};
+ghost use Rattle.normal_form.specs.Writer.{write, writtenTo};
+ghost use Rattle.offload_binaries.specs.Reader.{next};
+ghost use Rattle.harness.specs.Fields.{field, bundleField};
+
+// Number 0, 1 or 2 of what a writer returns: the number, the place or the length.
+fn field_of(number: usize, place: usize, length: usize, k: usize) -> u64
+    ensures { λ r. ⌜ r ≡ field k number place length ⌝ }
+{
+    if k == 0 {
+        return number as u64;
+    }
+    if k == 1 {
+        return place as u64;
+    }
+    length as u64
+}
+
+fn bundle_field(written: bundle::Written, k: usize) -> u64
+    ensures { λ r. ⌜ r ≡ bundleField k written ⌝ }
+{
+    field_of(written.number, written.place, written.length, k)
+}
+
+// Writes a bundle, and returns one number of what the bundle writer returns.
+pub fn offload_write_bundle_field(
+    records: &[EntryRecord],
+    ids: &[u8],
+    images: &[u8],
+    out: &mut [u8],
+    k: usize,
+) -> u64
+    ensures { λ r. ⌜ (r ≡ bundleField k (write idRules (length (now (records .entry))) (now (records .entry)) (now (ids .entry)) (now (images .entry)) (length (now (out .entry))))) × (now (out .exit) ≡ writtenTo idRules (length (now (records .entry))) (now (records .entry)) (now (ids .entry)) (now (images .entry)) (now (out .entry))) ⌝ }
+{
+    bundle_field(normal_form::write_bundle(records, ids, images, out), k)
+}
+
+// The size of the binary that a reader hands back next, or 0.
+#[no_mangle]
+pub extern "C" fn offload_binaries_next_size(binaries: &[u8], position: usize, taken: usize) -> u64
+    ensures { λ r. ⌜ r ≡ next (now (binaries .entry)) (record { position = position; taken = taken }) .answer .binary .size ⌝ }
+{
+    let cursor = Cursor {
+        position: position,
+        taken: taken,
+    };
+    offload_binaries::next_at(binaries, cursor)
+        .answer
+        .binary
+        .size as u64
+}
