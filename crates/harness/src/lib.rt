@@ -1,12 +1,17 @@
 // C calls of the reader and of both writers, for the comparison and the benchmark: include/offload.h has none of them.
 use bundle::EntryRecord;
 use offload_binaries::Cursor;
+use offload_binaries::Reader;
+use offload_binaries::Step;
+use offload_binary::StringPair;
+use offload_binary_writer::Tags;
 ghost use mathlib.Core.Path.{_≡_};
 ghost use lib.ListN.{length};
 ghost use Rattle.entry_id.specs.Rules.{idRules};
 ghost use Rattle.normal_form.specs.Writer.{write, writtenTo};
 ghost use Rattle.offload_binaries.specs.Reader.{next};
-ghost use Rattle.harness.specs.Fields.{field, bundleField};
+ghost use Rattle.offload_binary_writer.specs.Writer.{write as writeBinary};
+ghost use Rattle.harness.specs.Fields.{field, bundleField, binaryField, tags};
 
 // Number 0, 1 or 2 of what a writer returns: the number, the place or the length.
 fn field_of(number: usize, place: usize, length: usize, k: usize) -> u64
@@ -38,6 +43,48 @@ pub fn offload_write_bundle_field(
     ensures { λ r. ⌜ (r ≡ bundleField k (write idRules (length (now (records .entry))) (now (records .entry)) (now (ids .entry)) (now (images .entry)) (length (now (out .entry))))) × (now (out .exit) ≡ writtenTo idRules (length (now (records .entry))) (now (records .entry)) (now (ids .entry)) (now (images .entry)) (now (out .entry))) ⌝ }
 {
     bundle_field(normal_form::write_bundle(records, ids, images, out), k)
+}
+
+fn binary_field(written: offload_binary_writer::Written, k: usize) -> u64
+    ensures { λ r. ⌜ r ≡ binaryField k written ⌝ }
+{
+    field_of(written.number, written.place, written.len, k)
+}
+
+// Writes a binary, and returns one number of what the binary writer returns.
+pub fn offload_write_binary_field(
+    image_kind: u64,
+    offload_kind: u64,
+    flags: u32,
+    image: &[u8],
+    pairs: &[StringPair],
+    strings: &[u8],
+    out: &mut [u8],
+    k: usize,
+) -> u64
+    ensures { λ r. ⌜ (r ≡ binaryField k (writeBinary (tags «image_kind» «offload_kind» flags) (now (image .entry)) (now (pairs .entry)) (now (strings .entry)) (now (out .entry)) .answer)) × (now (out .exit) ≡ writeBinary (tags «image_kind» «offload_kind» flags) (now (image .entry)) (now (pairs .entry)) (now (strings .entry)) (now (out .entry)) .out) ⌝ }
+{
+    let tags = Tags {
+        image_kind,
+        offload_kind,
+        flags,
+    };
+    binary_field(
+        offload_binary_list::write_binary(tags, image, pairs, strings, out),
+        k,
+    )
+}
+
+// What the next call of a reader at this cursor answers, and where the reader then stands.
+fn read_next(bytes: &[u8], cursor: Cursor) -> Step
+    ensures { λ r. ⌜ r ≡ next (now (bytes .entry)) cursor ⌝ }
+{
+    let mut reader = Reader { bytes, cursor };
+    let answer = reader.next();
+    Step {
+        answer,
+        cursor: reader.cursor,
+    }
 }
 
 // The size of the binary that a reader hands back next, or 0.
