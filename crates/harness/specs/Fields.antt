@@ -1,10 +1,13 @@
 -- Which number of an answer a C call of this crate gives. Definitions only.
 use Prim.Native.Nat.{ℕ}
 use mathlib.Core.Bool.{cond}
+use mathlib.Core.List.{List, [], _∷_}
 use lib.Dec.{eqb}
 use Rattle.bundle.specs.declared.Written as B
 use Rattle.offload_binary_writer.specs.declared.Written as W
 use Rattle.offload_binary_writer.specs.declared.Tags.{Tags}
+use Rattle.offload_binary.specs.declared.StringPair.{StringPair}
+use Rattle.offload_binaries.specs.declared.Step.{Step}
 
 -- of what a writer returns: 0 its number, 1 its place, any other its length
 unfoldable pub field : ℕ → ℕ → ℕ → ℕ → ℕ
@@ -19,3 +22,12 @@ binaryField k w = field k (w .number) (w .place) (w .len)
 -- the kinds and the flags, given as numbers
 abbrev pub tags : ℕ → ℕ → ℕ → Tags
 tags image offload flags = record { «image_kind» = image; «offload_kind» = offload; flags = flags }
+
+-- what a reader answers and where it then stands, and a string pair, as lists of numbers
+unfoldable pub stepNumbers : Step → List ℕ
+stepNumbers s =
+    let b = s .answer .binary in
+    s .answer .number ∷ s .answer .place ∷ b .start ∷ b .size ∷ b .«image_kind» ∷ b .«offload_kind» ∷ b .flags ∷ b .image .start ∷ b .image .len ∷ b .count ∷ s .cursor .position ∷ s .cursor .taken ∷ []
+
+unfoldable pub pairNumbers : StringPair → List ℕ
+pairNumbers p = p .key .start ∷ p .key .len ∷ p .text .start ∷ p .text .len ∷ []

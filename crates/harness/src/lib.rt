@@ -3,15 +3,17 @@ use bundle::EntryRecord;
 use offload_binaries::Cursor;
 use offload_binaries::Reader;
 use offload_binaries::Step;
+use offload_binary::Part;
 use offload_binary::StringPair;
 use offload_binary_writer::Tags;
 ghost use mathlib.Core.Path.{_≡_};
-ghost use lib.ListN.{length};
+ghost use lib.ListN.{length, getD};
 ghost use Rattle.entry_id.specs.Rules.{idRules};
 ghost use Rattle.normal_form.specs.Writer.{write, writtenTo};
+ghost use Rattle.offload_binary.specs.Binary.{noPair};
 ghost use Rattle.offload_binaries.specs.Reader.{next};
 ghost use Rattle.offload_binary_writer.specs.Writer.{write as writeBinary};
-ghost use Rattle.harness.specs.Fields.{field, bundleField, binaryField, tags};
+ghost use Rattle.harness.specs.Fields.{field, bundleField, binaryField, tags, stepNumbers, pairNumbers};
 
 // Number 0, 1 or 2 of what a writer returns: the number, the place or the length.
 fn field_of(number: usize, place: usize, length: usize, k: usize) -> u64
@@ -33,7 +35,8 @@ fn bundle_field(written: bundle::Written, k: usize) -> u64
 }
 
 // Writes a bundle, and returns one number of what the bundle writer returns.
-pub fn offload_write_bundle_field(
+#[no_mangle]
+pub extern "C" fn offload_write_bundle_field(
     records: &[EntryRecord],
     ids: &[u8],
     images: &[u8],
@@ -52,7 +55,8 @@ fn binary_field(written: offload_binary_writer::Written, k: usize) -> u64
 }
 
 // Writes a binary, and returns one number of what the binary writer returns.
-pub fn offload_write_binary_field(
+#[no_mangle]
+pub extern "C" fn offload_write_binary_field(
     image_kind: u64,
     offload_kind: u64,
     flags: u32,
@@ -85,6 +89,84 @@ fn read_next(bytes: &[u8], cursor: Cursor) -> Step
         answer,
         cursor: reader.cursor,
     }
+}
+
+// What a reader at this cursor answers next, and where it then stands.
+#[no_mangle]
+pub extern "C" fn offload_binaries_next(
+    binaries: &[u8],
+    position: usize,
+    taken: usize,
+    out: &mut [u64; 12],
+)
+    ensures { λ _. ⌜ now (out .exit) ≡ stepNumbers (next (now (binaries .entry)) (record { position = position; taken = taken })) ⌝ }
+{
+    let cursor = Cursor {
+        position: position,
+        taken: taken,
+    };
+    let step = read_next(binaries, cursor);
+    let answer = step.answer;
+    let binary = answer.binary;
+    let image = binary.image;
+    let after = step.cursor;
+    *out = [
+        answer.number as u64,
+        answer.place as u64,
+        binary.start as u64,
+        binary.size as u64,
+        binary.image_kind,
+        binary.offload_kind,
+        binary.flags,
+        image.start as u64,
+        image.len as u64,
+        binary.count as u64,
+        after.position as u64,
+        after.taken as u64,
+    ];
+}
+
+// Pair i, or the pair of no bytes past the last place.
+fn pair_at(pairs: [StringPair; 32], i: usize) -> StringPair
+    ensures { λ r. ⌜ r ≡ getD pairs i noPair ⌝ }
+{
+    if 32 <= i {
+        return StringPair {
+            key: Part { start: 0, len: 0 },
+            text: Part { start: 0, len: 0 },
+        };
+    }
+    pairs[i]
+}
+
+// The places and lengths of a string pair that it hands back: of its key and of its text.
+#[no_mangle]
+pub extern "C" fn offload_binaries_next_pair(
+    binaries: &[u8],
+    position: usize,
+    taken: usize,
+    i: usize,
+    out: &mut [u64; 4],
+)
+    ensures { λ _. ⌜ now (out .exit) ≡ pairNumbers (getD (next (now (binaries .entry)) (record { position = position; taken = taken }) .answer .binary .pairs) i noPair) ⌝ }
+{
+    let cursor = Cursor {
+        position: position,
+        taken: taken,
+    };
+    let step = read_next(binaries, cursor);
+    let answer = step.answer;
+    let binary = answer.binary;
+    let pairs = binary.pairs;
+    let pair = pair_at(pairs, i);
+    let key = pair.key;
+    let text = pair.text;
+    *out = [
+        key.start as u64,
+        key.len as u64,
+        text.start as u64,
+        text.len as u64,
+    ];
 }
 
 // The size of the binary that a reader hands back next, or 0.
