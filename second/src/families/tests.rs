@@ -1,7 +1,8 @@
 //! The comparison itself: against the model it finds nothing and meets every line; against a library with a slip it finds it.
 
 use super::*;
-use crate::calls::{BundleCalls, NormaliseCalls, MODEL, MODEL_BINARY_READER, MODEL_BINARY_WRITER, MODEL_BUNDLE_WRITER};
+use crate::calls::{BundleCalls, MODEL, MODEL_BINARY_READER, MODEL_BINARY_WRITER, MODEL_BUNDLE_WRITER};
+use crate::gen::{binary_contents, records};
 use crate::model::bundle::{check, entries, normalise, pick, Checked, Picked};
 use crate::model::id::{meaning, same_target, Meaning};
 use crate::model::{integer, COUNT, LENGTH, NONE, RANGE, TWICE};
@@ -26,7 +27,7 @@ fn bundles_meet_every_line() {
 
 #[test]
 fn the_bundle_writer_meets_every_line() {
-    meets_every_line(bundle_writer::BundleWriters::new(MODEL_BUNDLE_WRITER));
+    meets_every_line(writers::Writers::<records::Case>::new(MODEL_BUNDLE_WRITER));
 }
 
 #[test]
@@ -36,7 +37,7 @@ fn binaries_meet_every_line() {
 
 #[test]
 fn the_binary_writer_meets_every_line() {
-    meets_every_line(binary_writer::BinaryWriters::new(MODEL_BINARY_WRITER));
+    meets_every_line(writers::Writers::<binary_contents::Case>::new(MODEL_BINARY_WRITER));
 }
 
 /// The call in which the first difference shows.
@@ -143,26 +144,26 @@ fn hip_taken_for_hipv4_is_found() {
     assert_eq!(found_in(BundleCalls { pick, ..MODEL }), "pick");
 }
 
-fn normalise_number(number: fn(&[u8], &mut [u8]) -> u64) -> BundleCalls {
-    BundleCalls { normalise: MODEL.normalise.map(|calls| NormaliseCalls { number, ..calls }), ..MODEL }
+fn with_normalise(normalise: fn(&[u8], &mut [u8], Field) -> u64) -> BundleCalls {
+    BundleCalls { normalise, ..MODEL }
 }
 
 #[test]
 fn a_byte_written_beside_the_output_is_found() {
-    let beyond = normalise_number(|bundle, out| {
+    let beyond = with_normalise(|bundle, out, field| {
         let written = normalise(bundle, out);
         if let Some(byte) = out.get_mut(written.length as usize) {
             *byte ^= 1;
         }
-        written.number
+        field.of(written)
     });
     assert_eq!(found_in(beyond), "normalise");
-    let on_refusal = normalise_number(|bundle, out| {
+    let on_refusal = with_normalise(|bundle, out, field| {
         let written = normalise(bundle, out);
         if written.number == ROOM && !out.is_empty() {
             out[0] = bundle[0];
         }
-        written.number
+        field.of(written)
     });
     assert_eq!(found_in(on_refusal), "normalise");
 }
