@@ -38,7 +38,7 @@ library: compiler
 
 archive = rt staticlib $(1) >target/staticlib.out || { cat target/staticlib.out; exit 1; }
 
-# The reader and the writers, which the header has not, as C calls for `compare` and `bench`.
+# The reader and the writers as C calls, which the header has not.
 harness: library
 	$(call archive,harness)
 
@@ -90,7 +90,8 @@ damage: tool
 	tests/damage.sh $(TOOL) target/damage $(LLVM)
 
 # The library's speed beside that of the second program, plain C, memcpy, LLVM's tools and, with llvm-19-dev, LLVM's library.
-bench: tool harness
+bench: tool
+	$(call archive,offload_binaries_bench)
 	$(CARGO) build --release --offline --manifest-path bench/Cargo.toml
 	bench/target/release/bench $(TOOL) target/bench | tee target/bench.md
 

@@ -17,7 +17,7 @@ fn main() {
     println!("cargo:rustc-link-search=native={folder}");
     println!("cargo:rustc-link-lib=static=baseline");
     println!("cargo:rustc-link-search=native=../target/staticlib");
-    for archive in ["offload", "harness"] {
+    for archive in ["offload", "offload_binaries_bench"] {
         println!("cargo:rustc-link-lib=static={archive}");
         println!("cargo:rerun-if-changed=../target/staticlib/lib{archive}.a");
     }

@@ -54,15 +54,8 @@ extern "C" {
         length: usize,
         position: usize,
         taken: usize,
-        numbers: *mut [u64; 12],
-    );
-    fn offload_binaries_next_pair(
-        binaries: *const u8,
-        length: usize,
-        position: usize,
-        taken: usize,
         pair: usize,
-        numbers: *mut [u64; 4],
+        numbers: *mut [u64; 16],
     );
 }
 
@@ -178,24 +171,32 @@ pub fn write_binary(content: &Content, strings: &[u8], image: &[u8], out: &mut [
     }
 }
 
-/// What a reader of the library answers that stands at the cursor, and its cursor afterwards.
+/// What a reader of the library answers that stands at the cursor, and its cursor afterwards. A call gives one string pair.
 pub fn next(binaries: &[u8], cursor: Cursor) -> (Binary, Cursor) {
-    let (start, length, taken) = (binaries.as_ptr(), binaries.len(), cursor.taken as usize);
-    let mut numbers = [0; 12];
-    // SAFETY: the slice is as long as it says, and there is room for twelve numbers.
-    unsafe { offload_binaries_next(start, length, cursor.at, taken, &mut numbers) };
-    let [number, place, first, size, image_kind, offload_kind, flags, image_place, image_length, count, at, after] =
-        numbers;
-    let pair = |k: u64| {
-        let mut numbers = [0; 4];
-        // SAFETY: the slice is as long as it says, and there is room for four numbers.
-        unsafe { offload_binaries_next_pair(start, length, cursor.at, taken, k as usize, &mut numbers) };
-        let [key_place, key_length, text_place, text_length] = numbers;
-        Pair { key_place, key_length, text_place, text_length }
+    let call = |pair: u64| {
+        let mut numbers = [0; 16];
+        let (start, length, taken) = (binaries.as_ptr(), binaries.len(), cursor.taken as usize);
+        // SAFETY: the slice is as long as it says, and there is room for sixteen numbers.
+        unsafe { offload_binaries_next(start, length, cursor.at, taken, pair as usize, &mut numbers) };
+        numbers
     };
-    // No model has 33.
-    let pairs = (0..count.min(33)).map(pair).collect();
-    let binary =
-        Binary { number, place, first, size, image_kind, offload_kind, flags, image_place, image_length, pairs };
-    (binary, Cursor { at: at as usize, taken: after })
+    let pair = |k: u64| {
+        let numbers = call(k);
+        Pair { key_place: numbers[10], key_length: numbers[11], text_place: numbers[12], text_length: numbers[13] }
+    };
+    let numbers = call(0);
+    let binary = Binary {
+        number: numbers[0],
+        place: numbers[1],
+        first: numbers[2],
+        size: numbers[3],
+        image_kind: numbers[4],
+        offload_kind: numbers[5],
+        flags: numbers[6],
+        image_place: numbers[7],
+        image_length: numbers[8],
+        // The model has 32 at most.
+        pairs: (0..numbers[9].min(33)).map(pair).collect(),
+    };
+    (binary, Cursor { at: numbers[14] as usize, taken: numbers[15] })
 }

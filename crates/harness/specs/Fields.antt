@@ -3,10 +3,11 @@ use Prim.Native.Nat.{ℕ}
 use mathlib.Core.Bool.{cond}
 use mathlib.Core.List.{List, [], _∷_}
 use lib.Dec.{eqb}
+use lib.ListN.{getD}
+use Rattle.offload_binary.specs.Binary.{noPair}
 use Rattle.bundle.specs.declared.Written as B
 use Rattle.offload_binary_writer.specs.declared.Written as W
 use Rattle.offload_binary_writer.specs.declared.Tags.{Tags}
-use Rattle.offload_binary.specs.declared.StringPair.{StringPair}
 use Rattle.offload_binaries.specs.declared.Step.{Step}
 
 -- of what a writer returns: 0 its number, 1 its place, any other its length
@@ -23,11 +24,10 @@ binaryField k w = field k (w .number) (w .place) (w .len)
 abbrev pub tags : ℕ → ℕ → ℕ → Tags
 tags image offload flags = record { «image_kind» = image; «offload_kind» = offload; flags = flags }
 
--- what a reader answers and where it then stands, and a string pair, as lists of numbers
-unfoldable pub stepNumbers : Step → List ℕ
-stepNumbers s =
+-- what a reader answers, with string pair i alone, and where it then stands
+unfoldable pub stepNumbers : ℕ → Step → List ℕ
+stepNumbers i s =
     let b = s .answer .binary in
-    s .answer .number ∷ s .answer .place ∷ b .start ∷ b .size ∷ b .«image_kind» ∷ b .«offload_kind» ∷ b .flags ∷ b .image .start ∷ b .image .len ∷ b .count ∷ s .cursor .position ∷ s .cursor .taken ∷ []
-
-unfoldable pub pairNumbers : StringPair → List ℕ
-pairNumbers p = p .key .start ∷ p .key .len ∷ p .text .start ∷ p .text .len ∷ []
+    let p = getD (b .pairs) i noPair in
+    s .answer .number ∷ s .answer .place ∷ b .start ∷ b .size ∷ b .«image_kind» ∷ b .«offload_kind» ∷ b .flags ∷ b .image .start ∷ b .image .len ∷ b .count
+    ∷ p .key .start ∷ p .key .len ∷ p .text .start ∷ p .text .len ∷ s .cursor .position ∷ s .cursor .taken ∷ []

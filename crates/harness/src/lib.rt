@@ -1,19 +1,18 @@
-// C calls of the reader and of both writers, for the comparison and the benchmark: include/offload.h has none of them.
+// The reader and both writers as C calls, for the comparison with the second program: include/offload.h has none of them.
 use bundle::EntryRecord;
 use offload_binaries::Cursor;
 use offload_binaries::Reader;
 use offload_binaries::Step;
-use offload_binary::Part;
 use offload_binary::StringPair;
 use offload_binary_writer::Tags;
 ghost use mathlib.Core.Path.{_≡_};
-ghost use lib.ListN.{length, getD};
+ghost use Prim.Native.Nat.{_%_};
+ghost use lib.ListN.{length};
 ghost use Rattle.entry_id.specs.Rules.{idRules};
 ghost use Rattle.normal_form.specs.Writer.{write, writtenTo};
-ghost use Rattle.offload_binary.specs.Binary.{noPair};
 ghost use Rattle.offload_binaries.specs.Reader.{next};
 ghost use Rattle.offload_binary_writer.specs.Writer.{write as writeBinary};
-ghost use Rattle.harness.specs.Fields.{field, bundleField, binaryField, tags, stepNumbers, pairNumbers};
+ghost use Rattle.harness.specs.Fields.{field, bundleField, binaryField, tags, stepNumbers};
 
 // Number 0, 1 or 2 of what a writer returns: the number, the place or the length.
 fn field_of(number: usize, place: usize, length: usize, k: usize) -> u64
@@ -91,95 +90,41 @@ fn read_next(bytes: &[u8], cursor: Cursor) -> Step
     }
 }
 
-// What a reader at this cursor answers next, and where it then stands.
+// What a reader at this cursor answers next, with string pair i alone, and where the reader then stands.
 #[no_mangle]
 pub extern "C" fn offload_binaries_next(
     binaries: &[u8],
     position: usize,
     taken: usize,
-    out: &mut [u64; 12],
+    i: usize,
+    out: &mut [u64; 16],
 )
-    ensures { λ _. ⌜ now (out .exit) ≡ stepNumbers (next (now (binaries .entry)) (record { position = position; taken = taken })) ⌝ }
+    ensures { λ _. ⌜ now (out .exit) ≡ stepNumbers (i % 32) (next (now (binaries .entry)) (record { position = position; taken = taken })) ⌝ }
 {
     let cursor = Cursor {
         position: position,
         taken: taken,
     };
     let step = read_next(binaries, cursor);
-    let answer = step.answer;
-    let binary = answer.binary;
-    let image = binary.image;
-    let after = step.cursor;
+    let binary = step.answer.binary;
+    let k = i % 32;
+    let pair = binary.pairs[k];
     *out = [
-        answer.number as u64,
-        answer.place as u64,
+        step.answer.number as u64,
+        step.answer.place as u64,
         binary.start as u64,
         binary.size as u64,
         binary.image_kind,
         binary.offload_kind,
         binary.flags,
-        image.start as u64,
-        image.len as u64,
+        binary.image.start as u64,
+        binary.image.len as u64,
         binary.count as u64,
-        after.position as u64,
-        after.taken as u64,
+        pair.key.start as u64,
+        pair.key.len as u64,
+        pair.text.start as u64,
+        pair.text.len as u64,
+        step.cursor.position as u64,
+        step.cursor.taken as u64,
     ];
-}
-
-// Pair i, or the pair of no bytes past the last place.
-fn pair_at(pairs: [StringPair; 32], i: usize) -> StringPair
-    ensures { λ r. ⌜ r ≡ getD pairs i noPair ⌝ }
-{
-    if 32 <= i {
-        return StringPair {
-            key: Part { start: 0, len: 0 },
-            text: Part { start: 0, len: 0 },
-        };
-    }
-    pairs[i]
-}
-
-// The places and lengths of a string pair that it hands back: of its key and of its text.
-#[no_mangle]
-pub extern "C" fn offload_binaries_next_pair(
-    binaries: &[u8],
-    position: usize,
-    taken: usize,
-    i: usize,
-    out: &mut [u64; 4],
-)
-    ensures { λ _. ⌜ now (out .exit) ≡ pairNumbers (getD (next (now (binaries .entry)) (record { position = position; taken = taken }) .answer .binary .pairs) i noPair) ⌝ }
-{
-    let cursor = Cursor {
-        position: position,
-        taken: taken,
-    };
-    let step = read_next(binaries, cursor);
-    let answer = step.answer;
-    let binary = answer.binary;
-    let pairs = binary.pairs;
-    let pair = pair_at(pairs, i);
-    let key = pair.key;
-    let text = pair.text;
-    *out = [
-        key.start as u64,
-        key.len as u64,
-        text.start as u64,
-        text.len as u64,
-    ];
-}
-
-// The size of the binary that a reader hands back next, or 0.
-#[no_mangle]
-pub extern "C" fn offload_binaries_next_size(binaries: &[u8], position: usize, taken: usize) -> u64
-    ensures { λ r. ⌜ r ≡ next (now (binaries .entry)) (record { position = position; taken = taken }) .answer .binary .size ⌝ }
-{
-    let cursor = Cursor {
-        position: position,
-        taken: taken,
-    };
-    offload_binaries::next_at(binaries, cursor)
-        .answer
-        .binary
-        .size as u64
 }

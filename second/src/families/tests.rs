@@ -3,6 +3,7 @@
 use super::*;
 use crate::calls::{BundleCalls, MODEL, MODEL_BINARY_READER, MODEL_BINARY_WRITER, MODEL_BUNDLE_WRITER};
 use crate::gen::{binary_contents, records};
+use crate::model::binary_writer::Content;
 use crate::model::bundle::{check, entries, normalise, pick, Checked, Picked};
 use crate::model::id::{meaning, same_target, Meaning};
 use crate::model::{integer, COUNT, LENGTH, NONE, RANGE, TWICE};
@@ -41,8 +42,12 @@ fn the_binary_writer_meets_every_line() {
 }
 
 /// The call in which the first difference shows.
+fn found(mut family: impl Family) -> &'static str {
+    run(&mut family, 8000).expect_err("a slip that was not found").call
+}
+
 fn found_in(calls: BundleCalls) -> &'static str {
-    run(&mut bundles::Bundles::new(calls), 8000).expect_err("a slip that was not found").call
+    found(bundles::Bundles::new(calls))
 }
 
 /// Offset, size and ID of each row of a table that is whole.
@@ -166,4 +171,26 @@ fn a_byte_written_beside_the_output_is_found() {
         field.of(written)
     });
     assert_eq!(found_in(on_refusal), "normalise");
+}
+
+#[test]
+fn slips_of_a_writer_are_found() {
+    let length_for_place =
+        found(writers::Writers::<records::Case>::new(|records, ids, images, out, field| match field {
+            Field::Place => MODEL_BUNDLE_WRITER(records, ids, images, out, Field::Length),
+            _ => MODEL_BUNDLE_WRITER(records, ids, images, out, field),
+        }));
+    assert_eq!(length_for_place, "bundle writer");
+    let no_flags = found(writers::Writers::<binary_contents::Case>::new(|content, strings, image, out, field| {
+        MODEL_BINARY_WRITER(&Content { flags: 0, ..content.clone() }, strings, image, out, field)
+    }));
+    assert_eq!(no_flags, "binary writer");
+}
+
+#[test]
+fn a_reader_that_stays_is_found() {
+    assert_eq!(
+        found(binaries::Binaries::new(|bytes, cursor| (MODEL_BINARY_READER(bytes, cursor).0, cursor))),
+        "binaries"
+    );
 }
