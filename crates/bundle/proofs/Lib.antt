@@ -5,12 +5,6 @@ pub mod EntryLaws
 pub mod PickLaws
 pub mod TableLaws
 pub mod Theorems
-pub mod RowLaws
-pub mod SlotLaws
-pub mod StageLaws
-pub mod RecordLaws
-pub mod ChoiceLaws
-pub mod IdLaws
 pub mod LayoutLaws
 pub mod ReadBack
 pub mod PackLaws

@@ -9,4 +9,3 @@ pub mod Records
 pub mod Layout
 pub mod Normal
 pub mod Demand
-pub mod Code

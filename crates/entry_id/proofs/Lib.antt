@@ -3,16 +3,6 @@ pub mod ReadBack
 pub mod FeatureLaws
 pub mod CompareLaws
 pub mod CanonicalLaws
-pub mod RunLaws
-pub mod CutLaws
-pub mod HeadLaws
-pub mod HeadForms
-pub mod OrderLaws
-pub mod WriteLaws
-pub mod PieceLaws
-pub mod SpanLaws
-pub mod PlanLaws
-pub mod TestLaws
 pub mod Theorems
 pub mod ExamplesProof
 pub mod RuleLaws

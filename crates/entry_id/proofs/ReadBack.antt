@@ -13,11 +13,10 @@ use Rattle.wire.proofs.SortLaws.{sort-rising}
 use Rattle.wire.specs.Lists.{any, every}
 use Rattle.wire.specs.Order.{risingBy, sortBy}
 use Rattle.wire.specs.Bytes.{bytes, empty, same, before}
-use Rattle.entry_id.specs.Text.{splitOn, joinWith}
+use Rattle.entry_id.specs.Text.{splitOn, joinWith, notColon}
 use Rattle.wire.proofs.Bools.{and-l, and-r, and-t, or-t, or-l, is-true, is-false, of-true, cases}
 use Rattle.entry_id.proofs.TextLaws.{every-imp, every-append, split-join}
 use Rattle.wire.proofs.ByteLaws.{same-eq}
-use Rattle.entry_id.specs.Code.Scan.{notColon}
 use Rattle.entry_id.specs.Meaning.{byName, Feature, Meaning, fieldsOf, piecesOf, fifthIsProcessor, feature, meaningOf, meaning, sign, piece, sixFields, canonicalOf, nameByte, fieldByte, kinds, signed, named, shaped, proper, valid, canon}
 
 -- ---- one feature

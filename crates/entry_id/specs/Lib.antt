@@ -6,4 +6,3 @@ pub mod IdRules
 pub mod Rules
 pub mod Theorems
 pub mod Examples
-pub mod Code

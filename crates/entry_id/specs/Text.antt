@@ -1,6 +1,6 @@
 -- Texts: cutting at a byte and joining with it. Definitions only.
 use Prim.Native.Nat.{ℕ}
-use mathlib.Core.Bool.{cond}
+use mathlib.Core.Bool.{Bool, not, cond}
 use mathlib.Core.List.{List, [], _∷_, _++_}
 use lib.Dec.{eqb}
 
@@ -19,3 +19,7 @@ unfoldable pub joinWith : ℕ → List (List ℕ) → List ℕ
 joinWith c [] = []
 joinWith c (p ∷ []) = p
 joinWith c (p ∷ q ∷ ps) = p ++ c ∷ joinWith c (q ∷ ps)
+
+-- any byte but a ':'
+unfoldable pub notColon : ℕ → Bool
+notColon b = not (eqb b 58)

@@ -26,8 +26,8 @@ fn sift(texts: &[u8], lens: &[usize], n: usize, order: &mut [usize], i: usize)
     let mut j = i;
     while j + 1 < n {
         let k = order[j + 1];
-        let id = bundle::slot(texts, lens, i);
-        let next = bundle::slot(texts, lens, k);
+        let id = bundle_reader::slot(texts, lens, i);
+        let next = bundle_reader::slot(texts, lens, k);
         if wire::comes_before(id, next) {
             break;
         }
@@ -149,7 +149,7 @@ fn put_table(
         let k = order[i];
         let r = rows[k];
         let size = r.image_len;
-        let id = bundle::slot(texts, lens, k);
+        let id = bundle_reader::slot(texts, lens, k);
         put_row(out, at, offset, size, id);
         at = at + (24 + id.len());
         offset = offset + size;
@@ -256,7 +256,7 @@ fn normalise_in(
     ensures { λ r. ⌜ r ≡ normalise idRules (now (bundle .entry)) (length (now (out .entry))) ⌝ }
     ensures { λ _. ⌜ now (out .exit) ≡ normalised idRules (now (bundle .entry)) (now (out .entry)) ⌝ }
 {
-    let e = bundle::examine(bundle, texts, lens);
+    let e = bundle_reader::examine(bundle, texts, lens);
     let number = e.number;
     if 0 < number {
         return refused(number, e.place);
@@ -291,7 +291,7 @@ fn write_in(
     ensures { λ r. ⌜ r ≡ write idRules n records (now (ids .entry)) (now (images .entry)) (length (now (out .entry))) ⌝ }
     ensures { λ _. ⌜ now (out .exit) ≡ writtenTo idRules n records (now (ids .entry)) (now (images .entry)) (now (out .entry)) ⌝ }
 {
-    let t = bundle::examine_records(ids, records, n, images.len(), texts, lens);
+    let t = bundle_reader::examine_records(ids, records, n, images.len(), texts, lens);
     let number = t.number;
     if 0 < number {
         return refused(number, t.place);
@@ -352,7 +352,7 @@ fn put_record(a: [EntryRecord; 64], i: usize, x: EntryRecord) -> [EntryRecord; 6
 fn gather(records: &[EntryRecord]) -> [EntryRecord; 64]
     ensures { λ r. ⌜ r ≡ gathered (now (records .entry)) ⌝ }
 {
-    let mut a = bundle::no_records();
+    let mut a = bundle_reader::no_records();
     let mut i = 0;
     while i < 64 {
         a = put_record(a, i, record_at(records, i));

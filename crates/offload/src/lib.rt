@@ -10,56 +10,56 @@ ghost use lib.ListN.{length};
 pub extern "C" fn offload_check_number(bundle: &[u8]) -> u64
     ensures { λ r. ⌜ r ≡ check idRules (now (bundle .entry)) .number ⌝ }
 {
-    bundle::check(bundle).number as u64
+    bundle_reader::check(bundle).number as u64
 }
 
 #[no_mangle]
 pub extern "C" fn offload_check_place(bundle: &[u8]) -> u64
     ensures { λ r. ⌜ r ≡ check idRules (now (bundle .entry)) .place ⌝ }
 {
-    bundle::check(bundle).place as u64
+    bundle_reader::check(bundle).place as u64
 }
 
 #[no_mangle]
 pub extern "C" fn offload_check_count(bundle: &[u8]) -> u64
     ensures { λ r. ⌜ r ≡ check idRules (now (bundle .entry)) .count ⌝ }
 {
-    bundle::check(bundle).count as u64
+    bundle_reader::check(bundle).count as u64
 }
 
 #[no_mangle]
 pub extern "C" fn offload_pick_number(bundle: &[u8], device: &[u8]) -> u64
     ensures { λ r. ⌜ r ≡ pick idRules (now (bundle .entry)) (now (device .entry)) .number ⌝ }
 {
-    bundle::pick(bundle, device).number as u64
+    bundle_reader::pick(bundle, device).number as u64
 }
 
 #[no_mangle]
 pub extern "C" fn offload_pick_place(bundle: &[u8], device: &[u8]) -> u64
     ensures { λ r. ⌜ r ≡ pick idRules (now (bundle .entry)) (now (device .entry)) .place ⌝ }
 {
-    bundle::pick(bundle, device).place as u64
+    bundle_reader::pick(bundle, device).place as u64
 }
 
 #[no_mangle]
 pub extern "C" fn offload_pick_index(bundle: &[u8], device: &[u8]) -> u64
     ensures { λ r. ⌜ r ≡ pick idRules (now (bundle .entry)) (now (device .entry)) .index ⌝ }
 {
-    bundle::pick(bundle, device).index as u64
+    bundle_reader::pick(bundle, device).index as u64
 }
 
 #[no_mangle]
 pub extern "C" fn offload_pick_position(bundle: &[u8], device: &[u8]) -> u64
     ensures { λ r. ⌜ r ≡ pick idRules (now (bundle .entry)) (now (device .entry)) .position ⌝ }
 {
-    bundle::pick(bundle, device).position
+    bundle_reader::pick(bundle, device).position
 }
 
 #[no_mangle]
 pub extern "C" fn offload_pick_size(bundle: &[u8], device: &[u8]) -> u64
     ensures { λ r. ⌜ r ≡ pick idRules (now (bundle .entry)) (now (device .entry)) .size ⌝ }
 {
-    bundle::pick(bundle, device).size
+    bundle_reader::pick(bundle, device).size
 }
 
 #[no_mangle]

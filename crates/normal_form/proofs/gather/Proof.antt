@@ -52,10 +52,10 @@ use Rattle.bundle.specs.declared.EntryRecord.{EntryRecord}
 use Rattle.bundle.proofs.EntryRecord as T
 use Rattle.bundle.proofs.EntryRecord.Laws as T′
 use Rattle.normal_form.proofs.Gathered.{sofar, sofar-none, sofar-next, sofar-all}
-use Rattle.bundle.proofs.no_records as none
-use Rattle.bundle.proofs.no_records.Symbol as none-def
-use Rattle.bundle.proofs.no_records.Symbol.{name as #bundle·no-records}
-use Rattle.bundle.proofs.no_records.Met as none-thm
+use Rattle.bundle_reader.proofs.no_records as none
+use Rattle.bundle_reader.proofs.no_records.Symbol as none-def
+use Rattle.bundle_reader.proofs.no_records.Symbol.{name as #bundle-reader·no-records}
+use Rattle.bundle_reader.proofs.no_records.Met as none-thm
 use Rattle.normal_form.proofs.put_record as put
 use Rattle.normal_form.proofs.put_record.Symbol as put-def
 use Rattle.normal_form.proofs.put_record.Symbol.{name as #normal-form·put-record}
@@ -168,7 +168,7 @@ module _ {M : Type 1} (𝓤 : URA M) (H : Heap 𝓤) (A : Atoms 𝓤) (W : Given
       suffices ! _ (ends-at 𝓤 H A gather.ended stayed (gather.clauses 𝓤 H A mem run) W (((κ, tt), (q, tt), tt, (s, tt), (v ∷ [], tt)), tt) u xs (tt, tt) (tt, tt)) $ says ! e $
       move ! (1 ∷ []) $ frame ! $ nothing ! $ move ! (2 ∷ 0 ∷ []) $ fjoin ! $ frame ! $ done !
 
-  module _ (𝓣 : Tables 𝓤 H) (fm : FmC 𝓤 H (W .laws) (𝓣 .C)) (known-none : Triple 𝓤 (𝓣 .C #bundle·no-records) (None 𝓤 H A mem run)) (known-or0 : Triple 𝓤 (𝓣 .C #normal-form·record-at) (Or0 𝓤 H A mem run)) (known-put : Triple 𝓤 (𝓣 .C #normal-form·put-record) (Put 𝓤 H A mem run)) where
+  module _ (𝓣 : Tables 𝓤 H) (fm : FmC 𝓤 H (W .laws) (𝓣 .C)) (known-none : Triple 𝓤 (𝓣 .C #bundle-reader·no-records) (None 𝓤 H A mem run)) (known-or0 : Triple 𝓤 (𝓣 .C #normal-form·record-at) (Or0 𝓤 H A mem run)) (known-put : Triple 𝓤 (𝓣 .C #normal-form·put-record) (Put 𝓤 H A mem run)) where
     module _ (l₀ l₁ l₂ l₃ l₄ l₅ : ℕ) where
       abbrev En : Env 𝓤 H
       En = (arr, l₀) ∷ (slice, l₁) ∷ (arr, l₂) ∷ (word, l₃) ∷ (tyBool, l₄) ∷ (T′.mir, l₅) ∷ []
@@ -239,7 +239,7 @@ module _ {M : Type 1} (𝓤 : URA M) (H : Heap 𝓤) (A : Atoms 𝓤) (W : Given
         move ! (14 ∷ []) $ fsplit ! $ keep ! (3 ∷ 4 ∷ 5 ∷ 6 ∷ 7 ∷ 8 ∷ 9 ∷ 10 ∷ 11 ∷ 12 ∷ 13 ∷ 14 ∷ 2 ∷ 15 ∷ 0 ∷ []) $
         first ! $ blocks ! $ loops ! 𝓣 Nearer Nearer-wf (At l₀ l₁ l₂ l₃ l₄ l₅) (λ t. turn l₀ l₁ l₂ l₃ l₄ l₅ t (ltb (t .0) 64) refl) (0, (zero-le, u))))))))))))
 
-module _ {M : Type 1} (𝓤 : URA M) (H : Heap 𝓤) (A : Atoms 𝓤) (W : Given 𝓤 H A) (mem : Memory → SProp 𝓤) (run : Routine → Fun 𝓤) (𝓣 : Tables 𝓤 H) (known-none : Triple 𝓤 (𝓣 .C #bundle·no-records) (None 𝓤 H A mem run)) (known-or0 : Triple 𝓤 (𝓣 .C #normal-form·record-at) (Or0 𝓤 H A mem run)) (known-put : Triple 𝓤 (𝓣 .C #normal-form·put-record) (Put 𝓤 H A mem run)) where
+module _ {M : Type 1} (𝓤 : URA M) (H : Heap 𝓤) (A : Atoms 𝓤) (W : Given 𝓤 H A) (mem : Memory → SProp 𝓤) (run : Routine → Fun 𝓤) (𝓣 : Tables 𝓤 H) (known-none : Triple 𝓤 (𝓣 .C #bundle-reader·no-records) (None 𝓤 H A mem run)) (known-or0 : Triple 𝓤 (𝓣 .C #normal-form·record-at) (Or0 𝓤 H A mem run)) (known-put : Triple 𝓤 (𝓣 .C #normal-form·put-record) (Put 𝓤 H A mem run)) where
   gather-walks : Walks 𝓤 H A gather.ended stayed (WpFn 𝓤 H (𝓣 .C) (𝓣 .Λ) code.function) (gather.clauses 𝓤 H A mem run)
   gather-walks = walked 𝓤 H A gather.ended stayed (gather.clauses 𝓤 H A mem run) (WpFn 𝓤 H (𝓣 .C) (𝓣 .Λ) code.function) (λ κs. (slice-vals, tt)) (λ κs. (shr-slice-tells (named 0) (κs .0) R, tt))
       (λ κs qs bounds a g are. via 𝓤 _ (fst∗ 𝓤 _ (emp 𝓤)) (walk 𝓤 H A W mem run (κs .0) (qs .0) (a .0) 𝓣 (fmOf 𝓤 H (W .laws) 𝓣) known-none known-or0 known-put (are .0)))
@@ -253,6 +253,6 @@ gather-spec 𝓤 H 𝓜 𝓖 𝓡 =
     entered 𝓤 H (tripleOf 𝓤 H (𝓖 .A) gather.signature (gather.spec 𝓤 H (𝓖 .A) (𝓜 .mem) (𝓡 .run)))
     (tables 𝓤 H 𝓜 𝓡 code.env .C) (tables 𝓤 H 𝓜 𝓡 code.env .Λ) #normal-form·gather code.function (code.unfolded 𝓤 H 𝓜 𝓡)
     (gather-meets 𝓤 H (𝓖 .A) (givenOf 𝓤 H 𝓜 𝓖) (𝓜 .mem) (𝓡 .run) (tablesOf 𝓤 H 𝓜 (tables 𝓤 H 𝓜 𝓡 code.env))
-    (cited 𝓤 H (None 𝓤 H (𝓖 .A) (𝓜 .mem) (𝓡 .run)) 𝓜 𝓡 code.env #bundle·no-records none-def.routine code.calls-bundle·no-records (none-thm.met 𝓤 H 𝓜 𝓖 𝓡))
+    (cited 𝓤 H (None 𝓤 H (𝓖 .A) (𝓜 .mem) (𝓡 .run)) 𝓜 𝓡 code.env #bundle-reader·no-records none-def.routine code.calls-bundle-reader·no-records (none-thm.met 𝓤 H 𝓜 𝓖 𝓡))
     (cited 𝓤 H (Or0 𝓤 H (𝓖 .A) (𝓜 .mem) (𝓡 .run)) 𝓜 𝓡 code.env #normal-form·record-at or0-def.routine code.calls-normal-form·record-at (or0-thm.met 𝓤 H 𝓜 𝓖 𝓡))
     (cited 𝓤 H (Put 𝓤 H (𝓖 .A) (𝓜 .mem) (𝓡 .run)) 𝓜 𝓡 code.env #normal-form·put-record put-def.routine code.calls-normal-form·put-record (put-thm.met 𝓤 H 𝓜 𝓖 𝓡)))

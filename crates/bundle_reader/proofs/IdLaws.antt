@@ -1,0 +1,76 @@
+-- The entry_id functions on what the code holds: room of 256 bytes, and canonical forms. Assumes nothing.
+use Prim.Native.Nat.{ℕ, _+_, _*_, _≤_}
+use native.Mathlib.Omega.{arith}
+use mathlib.Core.Path.{_≡_, refl, sym, ap, ap₂, _∙_}
+use mathlib.Core.List.{List, _++_}
+use lib.ListN.{length, take, drop, length-drop}
+use lib.Seq.{length-take-le, take-at}
+use mathlib.Core.Bool.{true, false}
+use Rattle.wire.specs.Bytes.{empty, overwrite}
+use Rattle.entry_id.specs.Canonical.{canonicalIn, sameText, mixedText, compatibleText}
+use Rattle.entry_id.specs.Rules.{idRules}
+use Rattle.entry_id.proofs.RuleLaws.{idRules-lawful, canonical-whole, same-rules, mixed-rules, compatible-rules}
+use Rattle.bundle_reader.specs.Slots.{Canonical}
+use Rattle.bundle_reader.proofs.SlotLaws.{length-empty, length-some, slot-written}
+
+-- what `canonical` leaves of an ID x in the room that it was lent
+pub record Made (x before after : List ℕ) (n : ℕ) : Type 0 where
+  pub size : n ≡ length (canonicalIn (length before) x)
+  pub text : after ≡ canonicalIn (length before) x ++ drop n before
+
+module _ (x before after : List ℕ) (n : ℕ) (room : length before ≡ 256) (m : Made x before after n) where
+  pub made-size : n ≡ length (idRules .canon x)
+  made-size = m .size ∙ ap length (canonical-whole (length before) x (omega arith))
+
+  pub made-text : after ≡ idRules .canon x ++ drop (length (idRules .canon x)) before
+  made-text = m .text ∙ ap₂ (λ z k. z ++ drop k before) (canonical-whole (length before) x (omega arith)) made-size
+
+  -- the canonical form, at the start of the room
+  pub name-is : take n after ≡ idRules .canon x
+  name-is = ap₂ take made-size made-text ∙ take-at (idRules .canon x) _ _ refl
+
+  module _ (kept : length after ≡ length before) where
+    pub name-fits : n ≤ length after
+    name-fits = omega (arith, made-size, idRules-lawful .canon-short x)
+
+    pub name-length : length (take n after) ≡ n
+    name-length = length-take-le n after name-fits
+
+  pub name-none : n ≡ 0 → empty (idRules .canon x) ≡ true
+  name-none z = length-empty (idRules .canon x) (sym made-size ∙ z)
+
+  module _ (z : n ≡ 0 → ⊥) where
+    pub name-some : empty (idRules .canon x) ≡ false
+    name-some = length-some (idRules .canon x) (λ (q : length (idRules .canon x) ≡ 0). z (made-size ∙ q))
+
+    pub name-canonical : Canonical idRules (take n after)
+    name-canonical = rw name-is (record { again = idRules-lawful .canon-again x; some = name-some })
+
+-- to slot i of the texts, from the ID's part of s: the parts' lengths as the code has them
+pub made-slot : (s texts last : List ℕ) (start len w i q n : ℕ) → w ≡ len → q ≡ 256 → i * 256 + 256 ≤ length texts
+    → Made (take w (drop start s)) (take q (drop (i * 256) texts)) last n
+    → (n ≡ length (idRules .canon (take len (drop start s)))) × (take (i * 256) texts ++ (last ++ drop q (drop (i * 256) texts)) ≡ overwrite texts (i * 256) (idRules .canon (take len (drop start s))))
+made-slot s texts last start len w i q n e f room m =
+    let x = take len (drop start s) in
+    let d = drop (i * 256) texts in
+    let k : Made x (take 256 d) last n = rw (e, f) at m in
+    let l : length (take 256 d) ≡ 256 = length-take-le 256 d (omega (arith, length-drop (i * 256) texts)) in
+    rw f (
+      made-size x (take 256 d) last n l k,
+      ap (λ z. take (i * 256) texts ++ (z ++ drop 256 d)) (made-text x (take 256 d) last n l k) ∙ slot-written texts (idRules .canon x) (i * 256) (idRules-lawful .canon-short x) room,
+    )
+
+-- ---- the tests on canonical forms, through equal texts
+
+module _ (a b x y : List ℕ) (p : a ≡ x) (q : b ≡ y) (m : Canonical idRules x) (n : Canonical idRules y) where
+  pub same-is : sameText a b ≡ idRules .sameMeaning x y
+  unfolding idRules
+  same-is = ap₂ sameText p q ∙ same-rules x y (m .again) (m .some) (n .again) (n .some)
+
+  pub mixed-is : mixedText a b ≡ idRules .mixed x y
+  unfolding idRules
+  mixed-is = ap₂ mixedText p q ∙ mixed-rules x y (m .again) (m .some) (n .again) (n .some)
+
+  pub compatible-is : compatibleText a b ≡ idRules .compatible x y
+  unfolding idRules
+  compatible-is = ap₂ compatibleText p q ∙ compatible-rules x y (m .again) (m .some) (n .again) (n .some)

@@ -1,0 +1,6 @@
+pub mod RowLaws
+pub mod SlotLaws
+pub mod StageLaws
+pub mod RecordLaws
+pub mod ChoiceLaws
+pub mod IdLaws

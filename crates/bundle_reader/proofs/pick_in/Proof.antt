@@ -1,0 +1,127 @@
+use borrow.Author.Needs.{needs}
+use Rattle.bundle_reader.proofs.pick_in.Statement.{statement}
+use Rattle.bundle_reader.proofs.pick_in.Tie as tie
+use native.Mathlib.Omega.{arith}
+use mathlib.Core.List.{[]}
+use mathlib.Core.Path.{refl, sym, _∙_}
+use Rattle.entry_id.specs.Rules.{idRules}
+use Rattle.entry_id.proofs.RuleLaws.{idRules-lawful}
+use Rattle.bundle_reader.proofs.IdLaws.{Made, name-fits, name-length, name-is, name-none, name-some, name-canonical}
+use Rattle.bundle_reader.proofs.ChoiceLaws.{few, picked-stop, picked-query, texts-all, picked-none, picked-image}
+
+examine-in-requires : tie.Need-examine-in-requires
+examine-in-requires c κs = search needs
+
+no-image-requires : tie.Need-no-image-requires
+no-image-requires c κs = search needs
+
+same-length : tie.Need-same-length
+same-length c = search needs
+
+same-length-2 : tie.Need-same-length-2
+same-length-2 c = search needs
+
+returns : tie.Need-returns
+returns c = c .no-image .ensures ∙ picked-stop idRules idRules-lawful _ (c .before .before .before .before .before .before .before .before .before .before .before .before .before .before .args .device .now) _ _ _ _ _ _ (c .before .before .before .before .before .before .examine-in .ensures) (c .before .if1 .taken)
+
+canonical-requires : tie.Need-canonical-requires
+canonical-requires c κs = search needs
+
+no-image-requires-2 : tie.Need-no-image-requires-2
+no-image-requires-2 c κs = search needs
+
+same-length-3 : tie.Need-same-length-3
+same-length-3 c = search needs
+
+same-length-4 : tie.Need-same-length-4
+same-length-4 c = search needs
+
+same-length-5 : tie.Need-same-length-5
+same-length-5 c = search needs
+
+returns-2 : tie.Need-returns-2
+returns-2 c = let k = c .before .before .before .before .canonical in
+    let m : Made (c .before .before .before .before .before .before .before .before .before .before .before .before .before .before .before .before .before .before .before .args .device .now) (c .before .before .before .before .before .before .before .before .before .before .before .before .before .before .before .before .before .before .before .args .name .now) (k .last .1 .0) (k .result) = record { size = k .ensures .0; text = k .ensures .1 } in
+    c .no-image2 .ensures ∙ picked-query idRules idRules-lawful _ (c .before .before .before .before .before .before .before .before .before .before .before .before .before .before .before .before .before .before .before .args .device .now) _ _ _ _ _ _ (c .before .before .before .before .before .before .before .before .before .before .before .examine-in .ensures) (omega arith) (name-none _ _ _ _ (c .before .before .before .before .before .before .before .before .before .before .before .before .before .before .before .before .before .before .before .pre .1) m (c .before .if2 .taken))
+
+slice-reshare-prefix-first-compatible : tie.Need-slice-reshare-prefix-first-compatible
+slice-reshare-prefix-first-compatible c = let k = c .before .before .before .before .before .canonical in
+    let m : Made (c .before .before .before .before .before .before .before .before .before .before .before .before .before .before .before .before .before .before .before .before .args .device .now) (c .before .before .before .before .before .before .before .before .before .before .before .before .before .before .before .before .before .before .before .before .args .name .now) (k .last .1 .0) (k .result) = record { size = k .ensures .0; text = k .ensures .1 } in
+    name-fits _ _ _ _ (c .before .before .before .before .before .before .before .before .before .before .before .before .before .before .before .before .before .before .before .before .pre .1) m (k .kept .1 .0)
+
+slice-aggregate-first-compatible : tie.Need-slice-aggregate-first-compatible
+slice-aggregate-first-compatible c = let k = c .before .before .before .before .before .before .canonical in
+    let m : Made (c .before .before .before .before .before .before .before .before .before .before .before .before .before .before .before .before .before .before .before .before .before .args .device .now) (c .before .before .before .before .before .before .before .before .before .before .before .before .before .before .before .before .before .before .before .before .before .args .name .now) (k .last .1 .0) (k .result) = record { size = k .ensures .0; text = k .ensures .1 } in
+    sym (name-length _ _ _ _ (c .before .before .before .before .before .before .before .before .before .before .before .before .before .before .before .before .before .before .before .before .before .pre .1) m (k .kept .1 .0))
+
+first-compatible-requires : tie.Need-first-compatible-requires
+first-compatible-requires c κs = let k = c .before .before .before .before .before .before .canonical in
+    let m : Made (c .before .before .before .before .before .before .before .before .before .before .before .before .before .before .before .before .before .before .before .before .before .args .device .now) (c .before .before .before .before .before .before .before .before .before .before .before .before .before .before .before .before .before .before .before .before .before .args .name .now) (k .last .1 .0) (k .result) = record { size = k .ensures .0; text = k .ensures .1 } in
+    (texts-all idRules idRules-lawful _ (c .before .before .before .before .before .before .before .before .before .before .before .before .before .before .before .before .before .before .before .before .before .args .device .now) _ _ _ _ _ _ (c .before .before .before .before .before .before .before .before .before .before .before .before .before .examine-in .ensures) (omega arith), name-canonical _ _ _ _ (c .before .before .before .before .before .before .before .before .before .before .before .before .before .before .before .before .before .before .before .before .before .pre .1) m (c .before .before .before .if2 .left))
+
+no-image-requires-3 : tie.Need-no-image-requires-3
+no-image-requires-3 c κs = search needs
+
+same-length-6 : tie.Need-same-length-6
+same-length-6 c = search needs
+
+same-length-7 : tie.Need-same-length-7
+same-length-7 c = search needs
+
+same-length-8 : tie.Need-same-length-8
+same-length-8 c = search needs
+
+returns-3 : tie.Need-returns-3
+returns-3 c = let k = c .before .before .before .before .before .before .before .before .before .canonical in
+    let m : Made (c .before .before .before .before .before .before .before .before .before .before .before .before .before .before .before .before .before .before .before .before .before .before .before .before .args .device .now) (c .before .before .before .before .before .before .before .before .before .before .before .before .before .before .before .before .before .before .before .before .before .before .before .before .args .name .now) (k .last .1 .0) (k .result) = record { size = k .ensures .0; text = k .ensures .1 } in
+    c .no-image3 .ensures ∙ picked-none idRules idRules-lawful _ (c .before .before .before .before .before .before .before .before .before .before .before .before .before .before .before .before .before .before .before .before .before .before .before .before .args .device .now) _ _ _ _ _ _ (c .before .before .before .before .before .before .before .before .before .before .before .before .before .before .before .before .examine-in .ensures) (omega arith) _ (name-is _ _ _ _ (c .before .before .before .before .before .before .before .before .before .before .before .before .before .before .before .before .before .before .before .before .before .before .before .before .pre .1) m) (name-some _ _ _ _ (c .before .before .before .before .before .before .before .before .before .before .before .before .before .before .before .before .before .before .before .before .before .before .before .before .pre .1) m (c .before .before .before .before .before .before .if2 .left)) _ (c .before .before .first-compatible .ensures) (c .before .if3 .taken)
+
+mul-row : tie.Need-mul-row
+mul-row c = omega (arith, few idRules idRules-lawful _ [] _ _ _ _ _ _ (c .before .before .before .before .before .before .before .before .before .before .before .before .before .before .before .before .examine-in .ensures) (omega arith))
+
+array-copy-out-row : tie.Need-array-copy-out-row
+array-copy-out-row c = omega (arith, few idRules idRules-lawful _ [] _ _ _ _ _ _ (c .before .before .before .before .before .before .before .before .before .before .before .before .before .before .before .before .examine-in .ensures) (omega arith))
+
+same-length-9 : tie.Need-same-length-9
+same-length-9 c = search needs
+
+same-length-10 : tie.Need-same-length-10
+same-length-10 c = search needs
+
+same-length-11 : tie.Need-same-length-11
+same-length-11 c = search needs
+
+returns-4 : tie.Need-returns-4
+returns-4 c = let k = c .before .before .before .before .before .before .before .before .before .before .canonical in
+    let m : Made (c .before .before .before .before .before .before .before .before .before .before .before .before .before .before .before .before .before .before .before .before .before .before .before .before .before .args .device .now) (c .before .before .before .before .before .before .before .before .before .before .before .before .before .before .before .before .before .before .before .before .before .before .before .before .before .args .name .now) (k .last .1 .0) (k .result) = record { size = k .ensures .0; text = k .ensures .1 } in
+    picked-image idRules idRules-lawful _ (c .before .before .before .before .before .before .before .before .before .before .before .before .before .before .before .before .before .before .before .before .before .before .before .before .before .args .device .now) _ _ _ _ _ _ (c .before .before .before .before .before .before .before .before .before .before .before .before .before .before .before .before .before .examine-in .ensures) (omega arith) _ (name-is _ _ _ _ (c .before .before .before .before .before .before .before .before .before .before .before .before .before .before .before .before .before .before .before .before .before .before .before .before .before .pre .1) m) (name-some _ _ _ _ (c .before .before .before .before .before .before .before .before .before .before .before .before .before .before .before .before .before .before .before .before .before .before .before .before .before .pre .1) m (c .before .before .before .before .before .before .before .if2 .left)) _ (c .before .before .before .first-compatible .ensures) (c .before .before .if3 .left) _ refl
+
+pub pick-in-spec : {M : Type 1} → statement M
+pick-in-spec =
+    tie.close
+    (tie.spec
+    examine-in-requires
+    no-image-requires
+    same-length
+    same-length-2
+    returns
+    canonical-requires
+    no-image-requires-2
+    same-length-3
+    same-length-4
+    same-length-5
+    returns-2
+    slice-reshare-prefix-first-compatible
+    slice-aggregate-first-compatible
+    first-compatible-requires
+    no-image-requires-3
+    same-length-6
+    same-length-7
+    same-length-8
+    returns-3
+    mul-row
+    array-copy-out-row
+    same-length-9
+    same-length-10
+    same-length-11
+    returns-4)

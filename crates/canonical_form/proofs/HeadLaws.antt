@@ -1,0 +1,213 @@
+-- What the scan of the head finds, against `fieldsOf` and `valid`. Assumes nothing.
+use Prim.Native.Nat.{ℕ, zero, suc, _+_, _-_, _≤_, _<_}
+use mathlib.Core.Path.{_≡_, refl, ap, _∙_, subst}
+use mathlib.Core.Logic.{_≢_}
+use mathlib.Core.Bool.{Bool, true, false, not, _&&_, cond}
+use mathlib.Core.List.{List, [], _∷_, _++_, append-assoc}
+use native.Mathlib.Omega.{arith}
+use lib.ListN.{length, getD, take, drop}
+use lib.Dec.{T, leb, leb→le}
+use Rattle.wire.specs.Lists.{any, every}
+use Rattle.wire.specs.Bytes.{same, empty}
+use Rattle.wire.proofs.Bools.{and-l, and-r, and-t, is-false, of-true}
+use Rattle.entry_id.specs.Meaning.{fieldsOf, piecesOf, fieldByte, namesProcessor, fifthIsProcessor, meaningOf, meaning, kinds, shaped, proper, valid}
+use Rattle.entry_id.proofs.ReadBack.{any-holds, Proper, parts, kind-bytes, proper-meaning}
+use Rattle.canonical_form.specs.Scan.{part, Run, Next, Triple, filled}
+use Rattle.canonical_form.proofs.RunLaws.{part-none, part-start, part-length, take-step, byte-inside, some-of}
+use Rattle.canonical_form.proofs.CutLaws.{at-dash, at-end, at-bad, cut, skip-fields, skip-pieces}
+
+-- ---- filled
+
+pub filled-some : (k : ℕ) (f : List ℕ) (fs : List (List ℕ)) → T (filled (suc k) (f ∷ fs)) → T (not (empty f))
+unfolding filled
+filled-some k f fs t = search (and-l, and-r)
+
+pub filled-rest : (k : ℕ) (f : List ℕ) (fs : List (List ℕ)) → T (filled (suc k) (f ∷ fs)) → T (filled k fs)
+unfolding filled
+filled-rest k f fs t = search (and-l, and-r)
+
+pub filled-bytes : (k : ℕ) (fs : List (List ℕ)) → T (filled k fs) → T (every (every fieldByte) fs)
+unfolding filled every
+filled-bytes zero fs t = t
+filled-bytes (suc k) [] t = tt
+filled-bytes (suc k) (f ∷ fs) t =
+    and-t (every fieldByte f) (every (every fieldByte) fs) (and-r (not (empty f)) (every fieldByte f) (and-l (not (empty f) && every fieldByte f) (filled k fs) t))
+    (filled-bytes k fs (filled-rest k f fs t))
+
+pub filled-more : (k : ℕ) → T (filled (suc k) []) → ⊥
+unfolding filled
+filled-more k t = t
+
+pub not-t : {b : Bool} → b ≡ false → T b → ⊥
+not-t e t = subst T e t
+
+module _ (x : List ℕ) (s a k : ℕ) (h : Run fieldByte x s a) where
+  pub next-no-dash : getD x a 0 ≢ 45 → filled (suc (suc k)) (fieldsOf (drop s x)) ≡ false
+  next-no-dash n = is-false (filled (suc (suc k)) (fieldsOf (drop s x))) (λ t. elim (cut x s a h) [
+    | at-dash e f p ↦ n e
+    | at-end e f p ↦ filled-more k (filled-rest (suc k) (part x s a) [] (rw f at t))
+    | at-bad m e f ↦ not-t f (filled-bytes (suc (suc k)) (fieldsOf (drop s x)) t)
+  ])
+
+  none-there : Run fieldByte x (suc a) (suc a) → T (filled (suc k) (fieldsOf (drop (suc a) x))) → ⊥
+  unfolding empty
+  none-there r t = elim (cut x (suc a) (suc a) r) [
+    | at-dash e f p ↦ rw (part-none x (suc a)) at (filled-some k (part x (suc a) (suc a)) (fieldsOf (drop (suc (suc a)) x)) (rw f at t))
+    | at-end e f p ↦ rw (part-none x (suc a)) at (filled-some k (part x (suc a) (suc a)) [] (rw f at t))
+    | at-bad m e f ↦ not-t f (filled-bytes (suc k) (fieldsOf (drop (suc a) x)) t)
+  ]
+
+  pub next-empty : Run fieldByte x (suc a) (suc a) → filled (suc (suc k)) (fieldsOf (drop s x)) ≡ false
+  next-empty r = is-false (filled (suc (suc k)) (fieldsOf (drop s x))) (λ t. elim (cut x s a h) [
+    | at-dash e f p ↦ none-there r (filled-rest (suc k) (part x s a) (fieldsOf (drop (suc a) x)) (rw f at t))
+    | at-end e f p ↦ filled-more k (filled-rest (suc k) (part x s a) [] (rw f at t))
+    | at-bad m e f ↦ not-t f (filled-bytes (suc (suc k)) (fieldsOf (drop s x)) t)
+  ])
+
+-- ---- what `valid` asks of the fields
+
+kind-some : (k : List ℕ) → T (any (same k) kinds) → T (not (empty k))
+unfolding kinds every empty
+kind-some k t = any-holds (λ f. not (empty f)) k kinds t tt
+
+cond-both : (p : ℕ → Bool) (b : Bool) (e : List ℕ) → T (every p (cond b [] e)) → T (every p (cond b e [])) → T (every p e)
+cond-both p true e s t = t
+cond-both p false e s t = s
+
+proper-filled : (fs ps : List (List ℕ)) → 4 ≤ length fs → length fs ≤ 6 → Proper (meaningOf fs ps) → T (filled 4 fs)
+unfolding filled meaningOf every fifthIsProcessor
+proper-filled [] ps h k m = absurd (omega arith)
+proper-filled (a ∷ []) ps h k m = absurd (omega arith)
+proper-filled (a ∷ b ∷ []) ps h k m = absurd (omega arith)
+proper-filled (a ∷ b ∷ c ∷ []) ps h k m = absurd (omega arith)
+proper-filled (a ∷ b ∷ c ∷ d ∷ []) ps h k m =
+    let ka = kind-some a (m .kind-in) in
+    let kb = kind-bytes a (m .kind-in) in
+    let fb : T (every fieldByte b && (every fieldByte c && (every fieldByte d && (every fieldByte [] && (every fieldByte [] && true))))) = m .field-bytes in
+    let b1 : T (every fieldByte b) = search (and-l, and-r) depth 8 in
+    let c1 : T (every fieldByte c) = search (and-l, and-r) depth 8 in
+    let d1 : T (every fieldByte d) = search (and-l, and-r) depth 8 in
+    let b2 : T (not (empty b)) = m .arch-some in
+    let c2 : T (not (empty c)) = m .vendor-some in
+    let d2 : T (not (empty d)) = m .system-some in
+    let z : T true = tt in
+    search and-t depth 14
+proper-filled (a ∷ b ∷ c ∷ d ∷ e ∷ []) ps h k m =
+    let ka = kind-some a (m .kind-in) in
+    let kb = kind-bytes a (m .kind-in) in
+    let fb : T (every fieldByte b && (every fieldByte c && (every fieldByte d && (every fieldByte (cond (namesProcessor e) [] e) && (every fieldByte (cond (namesProcessor e) e []) && true))))) = m .field-bytes in
+    let b1 : T (every fieldByte b) = search (and-l, and-r) depth 8 in
+    let c1 : T (every fieldByte c) = search (and-l, and-r) depth 8 in
+    let d1 : T (every fieldByte d) = search (and-l, and-r) depth 8 in
+    let e0 : T (every fieldByte (cond (namesProcessor e) [] e)) = search (and-l, and-r) depth 8 in
+    let f0 : T (every fieldByte (cond (namesProcessor e) e [])) = search (and-l, and-r) depth 8 in
+    let e1 = cond-both fieldByte (namesProcessor e) e e0 f0 in
+    let b2 : T (not (empty b)) = m .arch-some in
+    let c2 : T (not (empty c)) = m .vendor-some in
+    let d2 : T (not (empty d)) = m .system-some in
+    let z : T true = tt in
+    search and-t depth 14
+proper-filled (a ∷ b ∷ c ∷ d ∷ e ∷ f ∷ []) ps h k m =
+    let ka = kind-some a (m .kind-in) in
+    let kb = kind-bytes a (m .kind-in) in
+    let fb : T (every fieldByte b && (every fieldByte c && (every fieldByte d && (every fieldByte e && (every fieldByte f && true))))) = m .field-bytes in
+    let b1 : T (every fieldByte b) = search (and-l, and-r) depth 8 in
+    let c1 : T (every fieldByte c) = search (and-l, and-r) depth 8 in
+    let d1 : T (every fieldByte d) = search (and-l, and-r) depth 8 in
+    let e1 : T (every fieldByte e) = search (and-l, and-r) depth 8 in
+    let f1 : T (every fieldByte f) = search (and-l, and-r) depth 8 in
+    let b2 : T (not (empty b)) = m .arch-some in
+    let c2 : T (not (empty c)) = m .vendor-some in
+    let d2 : T (not (empty d)) = m .system-some in
+    let z : T true = tt in
+    search and-t depth 14
+proper-filled (a ∷ b ∷ c ∷ d ∷ e ∷ f ∷ g ∷ fs) ps h k m = absurd (omega arith)
+
+module _ (x : List ℕ) (v : T (valid x)) where
+  shaped-is : T (shaped x)
+  unfolding valid
+  shaped-is = and-l (shaped x) (proper (meaning x)) v
+
+  pub valid-count : (4 ≤ length (fieldsOf x)) × (length (fieldsOf x) ≤ 6)
+  unfolding shaped
+  valid-count =
+      let s = shaped-is in
+      let least : T (leb 4 (length (fieldsOf x))) = search (and-l, and-r) in
+      let most : T (leb (length (fieldsOf x)) 6) = search (and-l, and-r) in
+      (leb→le 4 (length (fieldsOf x)) least, leb→le (length (fieldsOf x)) 6 most)
+
+  pub valid-parts : Proper (meaning x)
+  valid-parts = parts (meaning x) (proper-meaning x v)
+
+  pub valid-filled : T (filled 4 (fieldsOf x))
+  unfolding meaning
+  valid-filled = proper-filled (fieldsOf x) (piecesOf x) (valid-count .0) (valid-count .1) valid-parts
+
+  pub valid-kind : T (any (same (getD (fieldsOf x) 0 [])) kinds)
+  unfolding meaning meaningOf
+  valid-kind = valid-parts .kind-in
+
+  pub valid-bytes : T (every (every fieldByte) (fieldsOf x))
+  valid-bytes = filled-bytes 4 (fieldsOf x) valid-filled
+
+-- ---- the first four fields
+
+pub not-valid : (x : List ℕ) → filled 4 (fieldsOf x) ≡ false → valid x ≡ false
+not-valid x e = is-false (valid x) (λ v. not-t e (valid-filled x v))
+
+module _ (x : List ℕ) (a : ℕ) (h : Run fieldByte x 0 a) where
+  pub triple-kind : any (same (take a x)) kinds ≡ false → valid x ≡ false
+  triple-kind n = is-false (valid x) (λ v. elim (cut x 0 a h) [
+    | at-dash e f p ↦ not-t n (subst (λ (k : List ℕ). T (any (same k) kinds)) (ap (λ (l : List (List ℕ)). getD l 0 []) f ∙ part-start x a) (valid-kind x v))
+    | at-end e f p ↦ not-t n (subst (λ (k : List ℕ). T (any (same k) kinds)) (ap (λ (l : List (List ℕ)). getD l 0 []) f ∙ part-start x a) (valid-kind x v))
+    | at-bad m e f ↦ not-t f (valid-bytes x v)
+  ])
+
+  module _ (b : ℕ) (nb : Next x a b) where
+    first-fields : fieldsOf x ≡ part x 0 a ∷ fieldsOf (drop (suc a) x)
+    first-fields = skip-fields x 0 a h (nb .dash)
+
+    pub triple-second : filled 3 (fieldsOf (drop (suc a) x)) ≡ false → valid x ≡ false
+    triple-second n = is-false (valid x) (λ v. not-t n (filled-rest 3 (part x 0 a) (fieldsOf (drop (suc a) x)) (rw first-fields at (valid-filled x v))))
+
+    module _ (c : ℕ) (nc : Next x b c) where
+      second-fields : fieldsOf (drop (suc a) x) ≡ part x (suc a) b ∷ fieldsOf (drop (suc b) x)
+      second-fields = skip-fields x (suc a) b (nb .run) (nc .dash)
+
+      pub triple-third : filled 2 (fieldsOf (drop (suc b) x)) ≡ false → valid x ≡ false
+      triple-third n = triple-second (is-false (filled 3 (fieldsOf (drop (suc a) x)))
+          (λ t. not-t n (filled-rest 2 (part x (suc a) b) (fieldsOf (drop (suc b) x)) (rw second-fields at t))))
+
+      module _ (d : ℕ) (nd : Next x c d) where
+        third-fields : fieldsOf (drop (suc b) x) ≡ part x (suc b) c ∷ fieldsOf (drop (suc c) x)
+        third-fields = skip-fields x (suc b) c (nc .run) (nd .dash)
+
+        four-text : take d x ≡ take a x ++ 45 ∷ part x (suc a) b ++ 45 ∷ part x (suc b) c ++ 45 ∷ part x (suc c) d
+        four-text =
+            let p = take-step x c d 45 (nd .dash) (byte-inside x c 44 (nd .dash)) (nd .run .low) in
+            let q = take-step x b c 45 (nc .dash) (byte-inside x b 44 (nc .dash)) (nc .run .low) in
+            let r = take-step x a b 45 (nb .dash) (byte-inside x a 44 (nb .dash)) (nb .run .low) in
+            rw (p, q, r) (simp append-assoc)
+
+        part-some : (s e : ℕ) → s < e → e ≤ length x → T (not (empty (part x s e)))
+        part-some s e l k = some-of (part x s e) (omega (arith, part-length x s e (omega arith) k))
+
+        pub triple-found : any (same (take a x)) kinds ≡ true → Triple x d
+        triple-found k = record {
+          kind = take a x;
+          arch = part x (suc a) b;
+          vendor = part x (suc b) c;
+          system = part x (suc c) d;
+          start = suc c;
+          kind-in = of-true (any (same (take a x)) kinds) k;
+          arch-some = part-some (suc a) b (nb .some) (nb .run .high);
+          vendor-some = part-some (suc b) c (nc .some) (nc .run .high);
+          system-some = part-some (suc c) d (nd .some) (nd .run .high);
+          arch-bytes = nb .run .passed;
+          vendor-bytes = nc .run .passed;
+          system-is = refl;
+          run = nd .run;
+          text = four-text;
+          fields-are = first-fields ∙ ap (λ l. part x 0 a ∷ l) second-fields ∙ ap (λ l. part x 0 a ∷ part x (suc a) b ∷ l) third-fields ∙ ap (λ k. k ∷ part x (suc a) b ∷ part x (suc b) c ∷ fieldsOf (drop (suc c) x)) (part-start x a);
+          pieces-are = skip-pieces x 0 a h (nb .dash) ∙ skip-pieces x (suc a) b (nb .run) (nc .dash) ∙ skip-pieces x (suc b) c (nc .run) (nd .dash);
+        }

@@ -1,0 +1,10 @@
+pub mod RunLaws
+pub mod CutLaws
+pub mod HeadLaws
+pub mod HeadForms
+pub mod OrderLaws
+pub mod WriteLaws
+pub mod PieceLaws
+pub mod SpanLaws
+pub mod PlanLaws
+pub mod TestLaws

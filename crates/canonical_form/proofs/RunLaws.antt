@@ -1,0 +1,95 @@
+-- Laws of runs and parts. Assumes nothing.
+use Prim.Native.Nat.{ℕ, suc, _+_, _-_, _≤_, _<_}
+use mathlib.Core.Path.{_≡_, sym, ap, _∙_}
+use mathlib.Core.Logic.{inl, inr}
+use mathlib.Core.Bool.{Bool, true, false, not}
+use mathlib.Core.List.{List, [], _∷_, _++_}
+use native.Mathlib.Omega.{arith}
+use lib.ListN.{length, getD, take, drop, length-take, length-drop, take-append-drop, List·getD-eq-default}
+use lib.Seq.{take-suc, drop-cons, drop-drop, getD-drop, length-take-le, take-add}
+use lib.Dec.{T, ltb}
+use borrow.Author.Tests.{ltb-true, ltb-false}
+use Rattle.wire.specs.Lists.{every}
+use Rattle.wire.specs.Bytes.{empty, bytes}
+use Rattle.entry_id.specs.Meaning.{namesProcessor}
+use Rattle.wire.proofs.Bools.{and-t, of-true, cases}
+use Rattle.entry_id.proofs.TextLaws.{every-append}
+use Rattle.wire.proofs.ByteLaws.{same-length}
+use Rattle.canonical_form.specs.Scan.{part}
+
+-- ---- parts
+
+pub part-none : {A : Type 0} (x : List A) (a : ℕ) → part x a a ≡ []
+unfolding part
+part-none x a = let e : a - a ≡ 0 = omega arith in rw e
+
+pub part-more : {A : Type 0} (x : List A) (d : A) (a i : ℕ) → a ≤ i → i < length x → part x a (i + 1) ≡ part x a i ++ getD x i d ∷ []
+unfolding part
+part-more x d a i h k =
+    let e : (i + 1) - a ≡ suc (i - a) = omega arith in
+    let f : a + (i - a) ≡ i = omega arith in
+    rw (e, take-suc (drop a x) (i - a) d (omega (arith, length-drop a x)), getD-drop, f)
+
+pub part-length : {A : Type 0} (x : List A) (a e : ℕ) → a ≤ e → e ≤ length x → length (part x a e) ≡ e - a
+unfolding part
+part-length x a e h k = length-take-le (e - a) (drop a x) (omega (arith, length-drop a x))
+
+-- what follows a, up to e and from e on
+pub part-drop : {A : Type 0} (x : List A) (a e : ℕ) → a ≤ e → drop a x ≡ part x a e ++ drop e x
+unfolding part
+part-drop x a e h =
+    let f : a + (e - a) ≡ e = omega arith in
+    sym (take-append-drop (e - a) (drop a x)) ∙ ap (λ r. take (e - a) (drop a x) ++ r) (drop-drop (e - a) a x ∙ ap (λ n. drop n x) f)
+
+pub part-start : {A : Type 0} (x : List A) (e : ℕ) → part x 0 e ≡ take e x
+unfolding part
+part-start x e = let f : e - 0 ≡ e = omega arith in rw f
+
+-- ---- runs
+
+module _ (p : ℕ → Bool) (x : List ℕ) (a : ℕ) where
+  pub run-none : T (every p (part x a a))
+  unfolding every
+  run-none = rw (part-none x a) tt
+
+  pub run-more : (i : ℕ) → a ≤ i → i < length x → T (every p (part x a i)) → p (getD x i 0) ≡ true → T (every p (part x a (i + 1)))
+  unfolding every
+  run-more i h k t e =
+      rw (part-more x 0 a i h k)
+      (every-append p (part x a i) (getD x i 0 ∷ []) t (and-t (p (getD x i 0)) true (of-true (p (getD x i 0)) e) tt))
+
+-- ---- bytes
+
+-- a byte that is not 0 stands inside
+pub byte-inside : (x : List ℕ) (i b : ℕ) → getD x i 0 ≡ suc b → i < length x
+byte-inside x i b e = elim (cases (ltb i (length x))) [
+  | inl h ↦ ltb-true i (length x) h
+  | inr h ↦ let z = List·getD-eq-default x 0 {n = i} (ltb-false i (length x) h) in absurd (omega arith)
+]
+
+-- the text up to r: up to a byte, that byte and what follows it
+pub take-step : (x : List ℕ) (a r b : ℕ) → getD x a 0 ≡ b → a < length x → suc a ≤ r → take r x ≡ take a x ++ b ∷ part x (suc a) r
+unfolding part
+take-step x a r b e k h =
+    let n = r - suc a in
+    let f : r ≡ a + suc n = omega arith in
+    ap (λ m. take m x) f ∙ take-add a (suc n) x ∙ ap (λ l. take a x ++ take (suc n) l) (drop-cons x a 0 k) ∙ ap (λ y. take a x ++ y ∷ take n (drop (suc a) x)) e
+
+pub some-of : (l : List ℕ) → 0 < length l → T (not (empty l))
+unfolding empty
+some-of [] z = absurd (omega arith)
+some-of (y ∷ l) z = tt
+
+pub short-proc : (f : List ℕ) → length f < 3 → namesProcessor f ≡ false
+unfolding namesProcessor
+short-proc f h =
+    let l : length (take 3 f) < 3 = omega (arith, length-take 3 f) in
+    rw (same-length (take 3 f) (bytes "gfx") (λ e. absurd (omega arith)), same-length (take 3 f) (bytes "sm_") (λ e. absurd (omega arith)))
+
+-- a part, from its first byte
+pub part-cons : (x : List ℕ) (a r b : ℕ) → getD x a 0 ≡ b → a < length x → suc a ≤ r → part x a r ≡ b ∷ part x (suc a) r
+unfolding part
+part-cons x a r b e k h =
+    let n = r - suc a in
+    let f : r - a ≡ suc n = omega arith in
+    ap (λ m. take m (drop a x)) f ∙ ap (λ l. take (suc n) l) (drop-cons x a 0 k) ∙ ap (λ y. y ∷ take n (drop (suc a) x)) e

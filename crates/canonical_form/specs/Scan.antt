@@ -1,0 +1,104 @@
+-- What scans of one text find, in terms of its positions. Definitions only. Assumes nothing.
+use Prim.Native.Nat.{ℕ, zero, suc, _+_, _-_, _≤_, _<_}
+use mathlib.Core.Path.{_≡_}
+use mathlib.Core.Bool.{Bool, true, false, not, _&&_, cond}
+use mathlib.Core.List.{List, [], _∷_, _++_}
+use lib.ListN.{length, getD, take, drop, replicate}
+use lib.Dec.{T, ltb, eqb}
+use Rattle.wire.specs.Lists.{any, every}
+use Rattle.entry_id.specs.Text.{notColon, splitOn, joinWith}
+use Rattle.wire.specs.Bytes.{empty, same}
+use Rattle.entry_id.specs.Meaning.{fieldsOf, piecesOf, meaning, sixFields, nameByte, fieldByte, kinds, valid}
+use Rattle.canonical_form.specs.declared.scan.Class.{Class}
+use Rattle.canonical_form.specs.declared.scan.Class.the-variants.{Field, Name, NotColon}
+use Rattle.entry_id.specs.Canonical.{headOf}
+
+abbrev pub inClass : Class → ℕ → Bool
+inClass Field = fieldByte
+inClass Name = nameByte
+inClass NotColon = notColon
+
+-- the bytes from a up to e
+unfoldable pub part : {A : Type 0} → List A → ℕ → ℕ → List A
+part x a e = take (e - a) (drop a x)
+
+-- from a up to r every byte passes, and the next one, if there is one, does not
+pub record Run (p : ℕ → Bool) (x : List ℕ) (a r : ℕ) : Type 0 where
+  pub low : a ≤ r
+  pub high : r ≤ length x
+  pub passed : T (every p (part x a r))
+  pub stop : r < length x → p (getD x r 0) ≡ false
+
+-- the head of the text ends at e: the text does, or a ':' stands there
+unfoldable pub endsAt : List ℕ → ℕ → Bool
+endsAt x e = cond (ltb e (length x)) (eqb (getD x e 0) 58) true
+
+-- the pieces of a text whose head ends at e
+unfoldable pub piecesAt : List ℕ → ℕ → List (List ℕ)
+piecesAt x e = cond (ltb e (length x)) (splitOn 58 (drop (suc e) x)) []
+
+-- the first k fields are there and not empty, and all are made of field bytes
+unfoldable pub filled : ℕ → List (List ℕ) → Bool
+filled zero fs = every (every fieldByte) fs
+filled (suc k) [] = false
+filled (suc k) (f ∷ fs) = not (empty f) && every fieldByte f && filled k fs
+
+-- a '-' at a, and a field of at least one byte from there to r
+pub record Next (x : List ℕ) (a r : ℕ) : Type 0 where
+  pub dash : getD x a 0 ≡ 45
+  pub run : Run fieldByte x (suc a) r
+  pub some : suc a < r
+
+pub record NextIs (x : List ℕ) (a r : ℕ) : Type 0 where
+  pub found : 0 < r → Next x a r
+  pub missing : r ≡ 0 → (s k : ℕ) → Run fieldByte x s a → filled (suc (suc k)) (fieldsOf (drop s x)) ≡ false
+
+-- kind, arch, vendor and system stand before d
+pub record Triple (x : List ℕ) (d : ℕ) : Type 0 where
+  pub kind : List ℕ
+  pub arch : List ℕ
+  pub vendor : List ℕ
+  pub system : List ℕ
+  pub start : ℕ
+  pub kind-in : T (any (same kind) kinds)
+  pub arch-some : T (not (empty arch))
+  pub vendor-some : T (not (empty vendor))
+  pub system-some : T (not (empty system))
+  pub arch-bytes : T (every fieldByte arch)
+  pub vendor-bytes : T (every fieldByte vendor)
+  pub system-is : system ≡ part x start d
+  pub run : Run fieldByte x start d
+  pub text : take d x ≡ kind ++ 45 ∷ arch ++ 45 ∷ vendor ++ 45 ∷ system
+  pub fields-are : fieldsOf x ≡ kind ∷ arch ∷ vendor ∷ fieldsOf (drop start x)
+  pub pieces-are : piecesOf x ≡ piecesOf (drop start x)
+
+pub record TripleIs (x : List ℕ) (d : ℕ) : Type 0 where
+  pub found : 0 < d → Triple x d
+  pub refused : d ≡ 0 → valid x ≡ false
+
+-- the head is in order; its canonical form has these dashes more, at this place
+pub record HeadAt (x : List ℕ) (at dashes stop : ℕ) (proc : Bool) : Type 0 where
+  pub kind-in : T (any (same (meaning x .kind)) kinds)
+  pub arch-some : T (not (empty (meaning x .arch)))
+  pub vendor-some : T (not (empty (meaning x .vendor)))
+  pub system-some : T (not (empty (meaning x .system)))
+  pub field-bytes : T (every (every fieldByte) (meaning x .arch ∷ meaning x .vendor ∷ meaning x .system ∷ meaning x .environment ∷ meaning x .processor ∷ []))
+  pub proc-is : proc ≡ not (empty (meaning x .processor))
+  pub count : length (fieldsOf x) + dashes ≡ 6
+  pub few : dashes ≤ 2
+  pub place : at ≤ stop
+  pub within : stop ≤ length x
+  pub ends : endsAt x stop ≡ true
+  pub form : joinWith 45 (sixFields (meaning x)) ≡ take at x ++ replicate dashes 45 ++ part x at stop
+  pub pieces-are : piecesOf x ≡ piecesAt x stop
+
+pub record HeadIs (x : List ℕ) (ok : Bool) (at dashes stop : ℕ) (proc : Bool) : Type 0 where
+  pub found : ok ≡ true → HeadAt x at dashes stop proc
+  pub refused : ok ≡ false → valid x ≡ false
+
+-- ---- two texts
+
+-- two heads are the same and end before place r, counted from 1; or they differ and r is 0
+pub record MeetIs (a b : List ℕ) (r : ℕ) : Type 0 where
+  pub found : 0 < r → (same (headOf a) (headOf b) ≡ true) × (Run notColon a 0 (r - 1) × Run notColon b 0 (r - 1))
+  pub differ : r ≡ 0 → same (headOf a) (headOf b) ≡ false

@@ -1,0 +1,87 @@
+// Reading one text: classes of bytes, and how far a run of one class goes.
+ghost use mathlib.Core.Path.{_≡_};
+ghost use Prim.Native.Nat.{_<_, _≤_};
+ghost use mathlib.Core.Bool.{true};
+ghost use lib.ListN.{length, getD};
+ghost use Rattle.entry_id.specs.Meaning.{fieldByte, nameByte};
+ghost use Rattle.canonical_form.specs.Scan.{Run, inClass, endsAt};
+ghost use Rattle.entry_id.specs.Text.{notColon};
+
+fn name_byte(b: u8) -> bool
+    ensures { λ r. ⌜ r ≡ nameByte b ⌝ }
+{
+    ((97 <= b) & (b <= 122)) | ((48 <= b) & (b <= 57)) | (b == 95)
+}
+
+fn field_byte(b: u8) -> bool
+    ensures { λ r. ⌜ r ≡ fieldByte b ⌝ }
+{
+    name_byte(b) | ((65 <= b) & (b <= 90)) | (b == 46)
+}
+
+// A class of bytes.
+pub(crate) enum Class {
+    Field,
+    Name,
+    NotColon,
+}
+
+fn in_class(class: Class, b: u8) -> bool
+    ensures { λ r. ⌜ r ≡ inClass class b ⌝ }
+{
+    match class {
+        Class::Field => field_byte(b),
+        Class::Name => name_byte(b),
+        Class::NotColon => b != b':',
+    }
+}
+
+// The end of the run of bytes of the class that starts at from.
+fn run_end(x: &[u8], from: usize, class: Class) -> usize
+    requires { ⌜ from ≤ length (now x) ⌝ }
+    ensures { λ r. ⌜ Run (inClass class) (now (x .entry)) from r ⌝ }
+{
+    let mut i = from;
+    while i < x.len() {
+        if !in_class(class, x[i]) {
+            return i;
+        }
+        i += 1;
+    }
+    i
+}
+
+pub(crate) fn field_end(x: &[u8], from: usize) -> usize
+    requires { ⌜ from ≤ length (now x) ⌝ }
+    ensures { λ r. ⌜ Run fieldByte (now (x .entry)) from r ⌝ }
+{
+    run_end(x, from, Class::Field)
+}
+
+pub(crate) fn name_end(x: &[u8], from: usize) -> usize
+    requires { ⌜ from ≤ length (now x) ⌝ }
+    ensures { λ r. ⌜ Run nameByte (now (x .entry)) from r ⌝ }
+{
+    run_end(x, from, Class::Name)
+}
+
+// The first ':' from `from` on, or the end.
+pub(crate) fn colon(x: &[u8], from: usize) -> usize
+    requires { ⌜ from ≤ length (now x) ⌝ }
+    ensures { λ r. ⌜ Run notColon (now (x .entry)) from r ⌝ }
+{
+    run_end(x, from, Class::NotColon)
+}
+
+// The byte at i, or 0 past the end.
+pub(crate) fn byte(id: &[u8], i: usize) -> u8
+    ensures { λ r. ⌜ r ≡ getD (now (id .entry)) i 0 ⌝ }
+{
+    if i < id.len() { id[i] } else { 0 }
+}
+
+pub(crate) fn ends(id: &[u8], i: usize) -> bool
+    ensures { λ r. ⌜ r ≡ endsAt (now (id .entry)) i ⌝ }
+{
+    if i < id.len() { id[i] == b':' } else { true }
+}
