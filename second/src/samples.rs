@@ -4,10 +4,11 @@ use crate::model::binaries::Binary;
 use crate::model::{part, OK};
 use std::collections::BTreeMap;
 
-/// A bundle, and its entries in order: canonical ID and image.
+/// A bundle, and its entries in order: canonical ID and image. `as_written`: LLVM's bundler wrote what the bundle writer writes for them.
 pub struct BundleSample {
     pub name: &'static str,
     pub bytes: &'static [u8],
+    pub as_written: bool,
     pub entries: &'static [(&'static str, &'static [u8])],
 }
 
@@ -55,6 +56,7 @@ pub const BUNDLES: &[BundleSample] = &[
     BundleSample {
         name: "three-cards",
         bytes: sample!("bundles/three-cards.bundle"),
+        as_written: true,
         entries: &[
             (HOST, b""),
             ("hip-amdgcn-amd-amdhsa--gfx906:sramecc+:xnack+", sample!("images/gfx906-sramecc+xnack+.o")),
@@ -69,6 +71,7 @@ pub const BUNDLES: &[BundleSample] = &[
     BundleSample {
         name: "aligned",
         bytes: sample!("bundles/aligned.bundle"),
+        as_written: false,
         entries: &[
             (HOST, b""),
             ("hipv4-amdgcn-amd-amdhsa--gfx90a:sramecc+:xnack-", sample!("images/gfx90a-sramecc+xnack-.o")),
@@ -79,6 +82,7 @@ pub const BUNDLES: &[BundleSample] = &[
     BundleSample {
         name: "kinds",
         bytes: sample!("bundles/kinds.bundle"),
+        as_written: true,
         entries: &[
             (HOST, sample!("images/host.bc")),
             ("openmp-amdgcn-amd-amdhsa--gfx906", sample!("images/gfx906.bc")),
@@ -87,10 +91,16 @@ pub const BUNDLES: &[BundleSample] = &[
             ("openmp-nvptx64-nvidia-cuda--sm_80", sample!("images/sm_80.s")),
         ],
     },
-    BundleSample { name: "host-only", bytes: sample!("bundles/host-only.bundle"), entries: &[(HOST, b"")] },
+    BundleSample {
+        name: "host-only",
+        bytes: sample!("bundles/host-only.bundle"),
+        as_written: true,
+        entries: &[(HOST, b"")],
+    },
     BundleSample {
         name: "five-fields",
         bytes: sample!("bundles/five-fields.bundle"),
+        as_written: false,
         entries: &[
             (HOST, b""),
             ("hip-amdgcn-amd-amdhsa--gfx906:sramecc-:xnack+", sample!("images/gfx906-sramecc-xnack+.o")),

@@ -15,8 +15,8 @@ pub trait Given: Sized + 'static {
     const CALL: (&'static str, &'static [u64]);
     const BUFFERS: [&'static str; 2];
 
-    /// What the real files hold.
-    fn real() -> Vec<Self>;
+    /// What the real files hold; and the file, where LLVM's tool wrote the same bytes.
+    fn real() -> Vec<(Self, Option<&'static [u8]>)>;
     fn some(random: &mut Random) -> Self;
     fn aims() -> Vec<Aim<Self>>;
     fn list(&self) -> &Self::List;
@@ -81,9 +81,11 @@ impl<G: Given> Family for Writers<G> {
     fn run_fixed(&mut self) -> Result<u64, Difference> {
         let cases = G::real();
         let count = cases.len() as u64;
-        for case in cases {
+        for (case, file) in cases {
             let number = self.run_case(case)?;
             holds(G::CALL.0, number == OK, "what a real file holds can be written", &number)?;
+            let same = file.map_or(true, |file| self.output.holds(file));
+            holds(G::CALL.0, same, "the bytes that LLVM's tool wrote", &"other bytes")?;
         }
         Ok(count)
     }
@@ -117,7 +119,7 @@ impl Given for records::Case {
     const CALL: (&'static str, &'static [u64]) = ("bundle writer", &[0, 3, 4, 5, 6, 7, 8, 11, 12]);
     const BUFFERS: [&'static str; 2] = ["ids", "images"];
 
-    fn real() -> Vec<Self> {
+    fn real() -> Vec<(Self, Option<&'static [u8]>)> {
         let case = |sample: &samples::BundleSample| {
             let mut case =
                 records::Case { records: Vec::new(), ids: Vec::new(), images: Vec::new(), zeros: 0, room: Room::Exact };
@@ -131,7 +133,7 @@ impl Given for records::Case {
                 case.ids.extend(id.as_bytes());
                 case.images.extend(*image);
             }
-            case
+            (case, Some(sample.bytes).filter(|_| sample.as_written))
         };
         samples::BUNDLES.iter().map(case).collect()
     }
@@ -166,7 +168,7 @@ impl Given for binary_contents::Case {
     const CALL: (&'static str, &'static [u64]) = ("binary writer", &[0, 11, 12, 15, 16]);
     const BUFFERS: [&'static str; 2] = ["strings", "image"];
 
-    fn real() -> Vec<Self> {
+    fn real() -> Vec<(Self, Option<&'static [u8]>)> {
         let case = |sample: &samples::BinarySample| {
             let mut strings = Vec::new();
             let mut put = |text: &str| {
@@ -180,7 +182,8 @@ impl Given for binary_contents::Case {
             let pairs = sample.pairs.iter().map(pair).collect();
             let (image_kind, offload_kind) = (sample.image_kind, sample.offload_kind);
             let content = Content { image_kind, offload_kind, flags: 0, pairs };
-            binary_contents::Case { content, strings, image: sample.image.to_vec(), zeros: 0, room: Room::Exact }
+            let image = sample.image.to_vec();
+            (binary_contents::Case { content, strings, image, zeros: 0, room: Room::Exact }, None)
         };
         samples::BINARIES.iter().flat_map(|sample| sample.binaries).map(case).collect()
     }
