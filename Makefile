@@ -13,7 +13,7 @@ TOOL := target/offload
 PREFIX := /usr/local
 LLVM := llvm
 
-.PHONY: test demo prove library calls compare tool tool-test example install install-test damage bench compiler tools
+.PHONY: test demo prove library harness calls compare tool tool-test example install install-test damage bench compiler tools
 
 # The proofs and the must-fail edits first, then the library against the second program. `rt ci` removes target/, so its last line is kept outside.
 test: tools
@@ -34,7 +34,13 @@ prove:
 # The static library of the proved crates, for C, C++ and Rust.
 library: compiler
 	mkdir -p target
-	rt staticlib offload >target/staticlib.out || { cat target/staticlib.out; exit 1; }
+	$(call archive,offload)
+
+archive = rt staticlib $(1) >target/staticlib.out || { cat target/staticlib.out; exit 1; }
+
+# The reader and the writers as C calls, which the header has not.
+harness: library
+	$(call archive,harness)
 
 # The header and the library, from C99 and from C++.
 calls: library
@@ -44,9 +50,9 @@ calls: library
 	target/calls-cpp
 
 # The library against the second program: the same rules, written a second time.
-compare: library
+compare: harness
 	$(CARGO) test $(SECOND) --lib
-	$(CARGO) build $(SECOND) --features normalise
+	$(CARGO) build $(SECOND)
 	second/target/release/compare
 
 # The tool, and a test that uses it as a person would.
@@ -85,7 +91,7 @@ damage: tool
 
 # The library's speed beside that of the second program, plain C, memcpy, LLVM's tools and, with llvm-19-dev, LLVM's library.
 bench: tool
-	rt staticlib offload_binaries_bench >target/staticlib.out || { cat target/staticlib.out; exit 1; }
+	$(call archive,offload_binaries_bench)
 	$(CARGO) build --release --offline --manifest-path bench/Cargo.toml
 	bench/target/release/bench $(TOOL) target/bench | tee target/bench.md
 

@@ -17,8 +17,10 @@ fn main() {
     println!("cargo:rustc-link-search=native={folder}");
     println!("cargo:rustc-link-lib=static=baseline");
     println!("cargo:rustc-link-search=native=../target/staticlib");
-    println!("cargo:rustc-link-lib=static=offload_binaries_bench");
-    println!("cargo:rerun-if-changed=../target/staticlib/liboffload_binaries_bench.a");
+    for archive in ["offload", "offload_binaries_bench"] {
+        println!("cargo:rustc-link-lib=static={archive}");
+        println!("cargo:rerun-if-changed=../target/staticlib/lib{archive}.a");
+    }
     llvm(&folder);
 }
 

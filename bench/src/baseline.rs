@@ -2,7 +2,7 @@
 //! library's place.
 
 use crate::baseline_binaries;
-use second::calls::{BundleCalls, NormaliseCalls};
+use second::calls::BundleCalls;
 use second::families::binaries::Binaries;
 use second::families::bundles::Bundles;
 use second::families::Family;
@@ -59,15 +59,8 @@ pub fn normalise(bundle: &[u8], out: &mut [u8]) -> Written {
     Written { number, place, length }
 }
 
-const CALLS: BundleCalls = BundleCalls {
-    check,
-    pick,
-    normalise: Some(NormaliseCalls {
-        number: |bundle, out| normalise(bundle, out).number,
-        place: |bundle, out| normalise(bundle, out).place,
-        length: |bundle, out| normalise(bundle, out).length,
-    }),
-};
+const CALLS: BundleCalls =
+    BundleCalls { check, pick, normalise: |bundle, out, field| field.of(normalise(bundle, out)) };
 
 /// Compares the baseline with the second program on the samples and on generated containers; ends the program where it differs.
 pub fn compare(cases: u64) {

@@ -1,14 +1,15 @@
 //! Families of cases. Each has its own generator, its own calls and its own numbers that must come.
 
 pub mod binaries;
-pub mod binary_writer;
-pub mod bundle_writer;
 pub mod bundles;
 #[cfg(test)]
 mod tests;
+pub mod writers;
 
+use crate::calls::Field;
 use crate::gen::random::Random;
-use crate::gen::Aim;
+use crate::gen::{Aim, Room};
+use crate::guard::Output;
 use crate::model::{Written, BIG, OK, ROOM, SIZE_LIMIT};
 use std::fmt::Debug;
 
@@ -137,10 +138,44 @@ pub fn scratch() -> Vec<u8> {
     vec![0; 1 << 20]
 }
 
-/// The length that the model would write with room enough; the size limit where that is too long for any case; 100 for another refusal,
-/// so that there is some room that must stay as it is.
-pub fn wanted_length(scratch: &mut [u8], write: impl Fn(&mut [u8]) -> Written) -> u128 {
-    let written = write(scratch);
+/// Compares a call that writes with the model: each number that it returns, and with each of them every byte of the lent output.
+pub fn compare_writing(
+    call: &'static str,
+    room: Room,
+    scratch: &mut [u8],
+    output: &mut Output,
+    model: impl Fn(&mut [u8]) -> Written,
+    library: impl Fn(&mut [u8], Field) -> u64,
+) -> Result<Written, Difference> {
+    let ample = model(scratch);
+    let room = room.bytes(wanted_length(ample));
+    let mut expected = Output::pattern(room);
+    let model = match ample.number {
+        OK if ample.length as usize <= room => {
+            let length = ample.length as usize;
+            expected[..length].copy_from_slice(&scratch[..length]);
+            ample
+        }
+        OK | BIG | ROOM => model(&mut expected),
+        // No other refusal depends on the room.
+        _ => ample,
+    };
+    let mut number = |field: Field| {
+        let number = library(output.lend(room), field);
+        holds(call, output.holds(&expected), WRITTEN, &number)?;
+        Ok(number)
+    };
+    let library =
+        Written { number: number(Field::Number)?, place: number(Field::Place)?, length: number(Field::Length)? };
+    same(call, &model, &library)?;
+    let zeros = if library.number == OK { library.place == 0 } else { library.length == 0 };
+    holds(call, zeros, ZEROS, &library)?;
+    Ok(model)
+}
+
+/// The length that the model writes with room enough; the size limit where that is too long for any case; 100 for another refusal, so
+/// that there is some room that must stay as it is.
+fn wanted_length(written: Written) -> u128 {
     match written.number {
         OK => written.length as u128,
         BIG | ROOM => SIZE_LIMIT,

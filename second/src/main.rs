@@ -3,14 +3,17 @@
 //! Ends with 1 where an answer differs, where a byte outside a lent slice is touched, or where a number never came. The case is then left
 //! in the folder (`target/second-case` if none is named), and `--seed S --first N --cases 1` runs it again.
 
-use second::calls::LINKED;
+mod linked;
+
+use second::families::binaries::Binaries;
 use second::families::bundles::Bundles;
+use second::families::writers::Writers;
 use second::families::{Difference, Family, Report};
 use second::gen::random::Random;
+use second::gen::{binary_contents, records};
 use std::path::{Path, PathBuf};
 use std::process::exit;
-use std::sync::atomic::{AtomicPtr, AtomicU64, Ordering::Relaxed};
-use std::sync::OnceLock;
+use std::sync::atomic::{AtomicPtr, Ordering::Relaxed};
 use std::time::Instant;
 
 const NAMES: [&str; 20] = [
@@ -26,13 +29,16 @@ struct Options {
     aims: bool,
 }
 
-static OPTIONS: OnceLock<Options> = OnceLock::new();
-
 fn main() {
-    let options = OPTIONS.get_or_init(read_options);
+    let options: &'static Options = Box::leak(Box::new(read_options()));
     catch_faults();
     println!("seed {}", options.seed);
-    let families: Vec<Box<dyn Family>> = vec![Box::new(Bundles::new(LINKED))];
+    let families: Vec<Box<dyn Family>> = vec![
+        Box::new(Bundles::new(linked::BUNDLES)),
+        Box::new(Writers::<records::Case>::new(linked::write_bundle)),
+        Box::new(Binaries::new(linked::next)),
+        Box::new(Writers::<binary_contents::Case>::new(linked::write_binary)),
+    ];
     for family in families {
         run(family, options);
     }
@@ -64,17 +70,27 @@ fn usage() -> ! {
     exit(2)
 }
 
+/// What runs, for the handler of a fault.
+struct Running {
+    options: &'static Options,
+    family: Box<dyn Family>,
+    /// None: an example or a real file.
+    case: Option<u64>,
+}
+
 /// Runs a family's cases; does not come back where they fail.
-fn run(mut family: Box<dyn Family>, options: &Options) {
+fn run(family: Box<dyn Family>, options: &'static Options) {
     let start = Instant::now();
-    CURRENT.store(&mut family, Relaxed);
-    CASE.store(u64::MAX, Relaxed);
-    let fixed = family.run_fixed().unwrap_or_else(|difference| differs(&*family, &difference));
+    let mut running = Running { options, family, case: None };
+    RUNNING.store(&mut running, Relaxed);
+    let result = running.family.run_fixed();
+    let fixed = result.unwrap_or_else(|difference| differs(&running, &difference));
     for case in options.first..options.first + options.cases {
-        CASE.store(case, Relaxed);
-        let result = family.run(&mut Random::of_case(options.seed, case));
-        result.unwrap_or_else(|difference| differs(&*family, &difference));
+        running.case = Some(case);
+        let result = running.family.run(&mut Random::of_case(options.seed, case));
+        result.unwrap_or_else(|difference| differs(&running, &difference));
     }
+    let family = running.family;
     println!(
         "{}: {} generated cases, {fixed} examples and real files, {:.1?}",
         family.name(),
@@ -125,18 +141,18 @@ fn require_all(report: &Report) {
     println!("  {} lines were aimed at, each met {least} times or more", report.aims.len());
 }
 
-fn differs(family: &dyn Family, difference: &Difference) -> ! {
-    println!("{}: the library differs from the model in {}", family.name(), difference.call);
+fn differs(running: &Running, difference: &Difference) -> ! {
+    println!("{}: the library differs from the model in {}", running.family.name(), difference.call);
     println!("  model:   {}\n  library: {}", difference.model, difference.library);
-    fail(family)
+    fail(running)
 }
 
 /// Leaves the case in files and says how to run it again.
-fn fail(family: &dyn Family) -> ! {
-    let options = OPTIONS.get().expect("options are read first");
-    match CASE.load(Relaxed) {
-        u64::MAX => println!("  an example or a real file: these always run"),
-        case => println!("  run again: --seed {} --first {case} --cases 1", options.seed),
+fn fail(running: &Running) -> ! {
+    let Running { options, family, case } = running;
+    match case {
+        None => println!("  an example or a real file: these always run"),
+        Some(case) => println!("  run again: --seed {} --first {case} --cases 1", options.seed),
     }
     for (name, bytes) in family.files() {
         let file = dump(&options.dump, &format!("{}-{name}", family.name().replace(' ', "-")), &bytes);
@@ -154,9 +170,7 @@ fn dump(folder: &Path, name: &str, bytes: &[u8]) -> PathBuf {
     file
 }
 
-/// The case that runs, for the handler below.
-static CASE: AtomicU64 = AtomicU64::new(u64::MAX);
-static CURRENT: AtomicPtr<Box<dyn Family>> = AtomicPtr::new(std::ptr::null_mut());
+static RUNNING: AtomicPtr<Running> = AtomicPtr::new(std::ptr::null_mut());
 
 extern "C" {
     fn signal(number: i32, handler: extern "C" fn(i32)) -> usize;
@@ -174,10 +188,10 @@ fn catch_faults() {
 /// The library touched a byte outside a lent slice. It runs in the middle of a call, which holds nothing that the report needs.
 extern "C" fn touched_outside(_: i32) {
     println!("a byte outside a lent slice was touched");
-    // SAFETY: the family of the case that runs; nothing else runs any more.
-    let family = unsafe { CURRENT.load(Relaxed).as_ref() };
-    if let Some(family) = family {
-        fail(&**family);
+    // SAFETY: it lives as long as its cases run, and nothing else runs any more.
+    let running = unsafe { RUNNING.load(Relaxed).as_ref() };
+    if let Some(running) = running {
+        fail(running);
     }
     exit(1)
 }

@@ -1,9 +1,14 @@
 //! The files of `samples/`, with what they hold.
 
-/// A bundle, and its entries in order: canonical ID and image.
+use crate::model::binaries::Binary;
+use crate::model::{part, OK};
+use std::collections::BTreeMap;
+
+/// A bundle, and its entries in order: canonical ID and image. `as_written`: LLVM's bundler wrote what the bundle writer writes for them.
 pub struct BundleSample {
     pub name: &'static str,
     pub bytes: &'static [u8],
+    pub as_written: bool,
     pub entries: &'static [(&'static str, &'static [u8])],
 }
 
@@ -21,6 +26,24 @@ pub struct BinarySample {
     pub pairs: &'static [(&'static str, &'static str)],
 }
 
+impl BinarySample {
+    /// Whether an answer of a reader on these bytes is this binary.
+    pub fn is(&self, bytes: &[u8], answer: &Binary) -> bool {
+        let named = |place: u64, length: u64| part(bytes, place, length);
+        let text = |place: u64, length: u64| named(place, length).and_then(|text| std::str::from_utf8(text).ok());
+        let pairs: Option<BTreeMap<&str, &str>> = answer
+            .pairs
+            .iter()
+            .map(|pair| Some((text(pair.key_place, pair.key_length)?, text(pair.text_place, pair.text_length)?)))
+            .collect();
+        answer.number == OK
+            && answer.image_kind == self.image_kind
+            && answer.offload_kind == self.offload_kind
+            && named(answer.image_place, answer.image_length) == Some(self.image)
+            && pairs == Some(self.pairs.iter().copied().collect())
+    }
+}
+
 macro_rules! sample {
     ($path:literal) => {
         include_bytes!(concat!("../../samples/", $path))
@@ -33,6 +56,7 @@ pub const BUNDLES: &[BundleSample] = &[
     BundleSample {
         name: "three-cards",
         bytes: sample!("bundles/three-cards.bundle"),
+        as_written: true,
         entries: &[
             (HOST, b""),
             ("hip-amdgcn-amd-amdhsa--gfx906:sramecc+:xnack+", sample!("images/gfx906-sramecc+xnack+.o")),
@@ -47,6 +71,7 @@ pub const BUNDLES: &[BundleSample] = &[
     BundleSample {
         name: "aligned",
         bytes: sample!("bundles/aligned.bundle"),
+        as_written: false,
         entries: &[
             (HOST, b""),
             ("hipv4-amdgcn-amd-amdhsa--gfx90a:sramecc+:xnack-", sample!("images/gfx90a-sramecc+xnack-.o")),
@@ -57,6 +82,7 @@ pub const BUNDLES: &[BundleSample] = &[
     BundleSample {
         name: "kinds",
         bytes: sample!("bundles/kinds.bundle"),
+        as_written: true,
         entries: &[
             (HOST, sample!("images/host.bc")),
             ("openmp-amdgcn-amd-amdhsa--gfx906", sample!("images/gfx906.bc")),
@@ -65,10 +91,16 @@ pub const BUNDLES: &[BundleSample] = &[
             ("openmp-nvptx64-nvidia-cuda--sm_80", sample!("images/sm_80.s")),
         ],
     },
-    BundleSample { name: "host-only", bytes: sample!("bundles/host-only.bundle"), entries: &[(HOST, b"")] },
+    BundleSample {
+        name: "host-only",
+        bytes: sample!("bundles/host-only.bundle"),
+        as_written: true,
+        entries: &[(HOST, b"")],
+    },
     BundleSample {
         name: "five-fields",
         bytes: sample!("bundles/five-fields.bundle"),
+        as_written: false,
         entries: &[
             (HOST, b""),
             ("hip-amdgcn-amd-amdhsa--gfx906:sramecc-:xnack+", sample!("images/gfx906-sramecc-xnack+.o")),
@@ -180,10 +212,10 @@ pub const BINARIES: &[BinariesSample] = &[
 #[cfg(test)]
 mod tests {
     use super::*;
-    use crate::model::binaries::{read_all, Binary, Pair};
+    use crate::model::binaries::read_all;
     use crate::model::bundle::{check, pick, Checked};
-    use crate::model::{END, NONE, OK, QUERY};
-    use std::collections::{BTreeMap, BTreeSet};
+    use crate::model::{END, NONE, QUERY};
+    use std::collections::BTreeSet;
 
     #[test]
     fn bundles_hold_their_images() {
@@ -208,29 +240,13 @@ mod tests {
         }
     }
 
-    fn pairs<'a>(bytes: &'a [u8], pairs: &[Pair]) -> BTreeMap<&'a str, &'a str> {
-        let text = |place: u64, length: u64| std::str::from_utf8(&bytes[place as usize..][..length as usize]).unwrap();
-        pairs
-            .iter()
-            .map(|pair| (text(pair.key_place, pair.key_length), text(pair.text_place, pair.text_length)))
-            .collect()
-    }
-
-    fn holds(bytes: &[u8], binary: &Binary, sample: &BinarySample) -> bool {
-        binary.number == OK
-            && binary.image_kind == sample.image_kind
-            && binary.offload_kind == sample.offload_kind
-            && bytes[binary.image_place as usize..][..binary.image_length as usize] == *sample.image
-            && pairs(bytes, &binary.pairs) == sample.pairs.iter().copied().collect()
-    }
-
     #[test]
     fn binaries_hold_their_images() {
         for sample in BINARIES {
             let answers = read_all(sample.bytes);
             assert_eq!(answers.len(), sample.binaries.len() + 1, "{}", sample.name);
             for (answer, binary) in answers.iter().zip(sample.binaries) {
-                assert!(holds(sample.bytes, answer, binary), "{}: {answer:?}", sample.name);
+                assert!(binary.is(sample.bytes, answer), "{}: {answer:?}", sample.name);
             }
             assert_eq!(answers[sample.binaries.len()].number, END, "{}", sample.name);
         }

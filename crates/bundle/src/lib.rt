@@ -25,6 +25,7 @@ pub struct Written {
 
 // An entry record: the part of a buffer that holds an entry's ID, and the part of a buffer that holds its image.
 // A row of a bundle's table is one: both buffers are the bundle.
+#[repr(C)]
 pub struct EntryRecord {
     pub id_start: usize,
     pub id_len: usize,

@@ -13,12 +13,14 @@ ghost use Rattle.offload_binary.specs.Code.{stringLen, readPair, readPai
 ghost use Rattle.offload_binary.specs.Binary.{keyIn, badKeys};
 
 // A part of lent bytes: the place of its first byte, and its length.
+#[repr(C)]
 pub struct Part {
     pub start: usize,
     pub len: usize,
 }
 
 // A string pair: the parts that hold its key and its text, without their zero bytes.
+#[repr(C)]
 pub struct StringPair {
     pub key: Part,
     pub text: Part,

@@ -1,13 +1,11 @@
 //! Bundles: the check, the pick and normalising.
 
 use super::*;
-use crate::calls::{BundleCalls, NormaliseCalls};
+use crate::calls::BundleCalls;
 use crate::gen::bundles::{aims, sample_case, shake, some_count, Case, Draft};
 use crate::gen::examples::bundle_cases;
-use crate::gen::Room;
-use crate::guard::{Inputs, Output};
+use crate::guard::Inputs;
 use crate::model::bundle::{check, normalise, pick, Checked, Picked};
-use crate::model::Written;
 use crate::samples;
 
 const CHECK: (&str, &[u64]) = ("check", &[0, 1, 2, 3, 4, 5, 6, 7, 8]);
@@ -27,14 +25,8 @@ pub struct Bundles {
 
 impl Bundles {
     pub fn new(calls: BundleCalls) -> Bundles {
-        let mut aims = aims();
-        let mut tallies = vec![CHECK, PICK];
-        if calls.normalise.is_some() {
-            tallies.push(NORMALISE);
-        } else {
-            aims.retain(|aim| aim.call != NORMALISE.0);
-        }
-        let report = Report { entry_counts: vec![0; 65], ..Report::new(&tallies, &aims) };
+        let aims = aims();
+        let report = Report { entry_counts: vec![0; 65], ..Report::new(&[CHECK, PICK, NORMALISE], &aims) };
         Bundles {
             calls,
             report,
@@ -53,7 +45,7 @@ impl Bundles {
         self.device.lend(&self.case.device, 0);
         let checked = self.compare_check()?;
         let picked = self.compare_pick()?;
-        let written = self.calls.normalise.map_or(Ok(Written::default()), |calls| self.compare_normalise(calls))?;
+        let written = self.compare_normalise()?;
         let kept = self.bundle.lent().starts_with(&self.case.bundle) && self.device.lent() == self.case.device;
         holds("all", kept, KEPT, &"changed")?;
         let numbers = [(CHECK.0, checked.number), (PICK.0, picked.number), (NORMALISE.0, written.number)];
@@ -85,26 +77,16 @@ impl Bundles {
         Ok(model)
     }
 
-    fn compare_normalise(&mut self, calls: NormaliseCalls) -> Result<Written, Difference> {
-        let bundle = self.bundle.lent();
-        let wanted = wanted_length(&mut self.scratch, |out| normalise(bundle, out));
-        let room = self.case.room.bytes(wanted);
-        let mut expected = Output::pattern(room);
-        let model = normalise(bundle, &mut expected);
-        let mut number_of = |call: fn(&[u8], &mut [u8]) -> u64| {
-            let number = call(bundle, self.output.lend(room));
-            holds("normalise", self.output.holds(&expected), WRITTEN, &number)?;
-            Ok(number)
-        };
-        let library = Written {
-            number: number_of(calls.number)?,
-            place: number_of(calls.place)?,
-            length: number_of(calls.length)?,
-        };
-        same("normalise", &model, &library)?;
-        let zeros = if library.number == 0 { library.place == 0 } else { library.length == 0 };
-        holds("normalise", zeros, ZEROS, &library)?;
-        Ok(model)
+    fn compare_normalise(&mut self) -> Result<Written, Difference> {
+        let (bundle, library) = (self.bundle.lent(), self.calls.normalise);
+        compare_writing(
+            NORMALISE.0,
+            self.case.room,
+            &mut self.scratch,
+            &mut self.output,
+            |out| normalise(bundle, out),
+            |out, field| library(bundle, out, field),
+        )
     }
 
     /// Runs the case, and counts it for an aim.

@@ -1,7 +1,9 @@
 //! The comparison itself: against the model it finds nothing and meets every line; against a library with a slip it finds it.
 
 use super::*;
-use crate::calls::{BundleCalls, NormaliseCalls, MODEL, MODEL_BINARY_READER, MODEL_BINARY_WRITER, MODEL_BUNDLE_WRITER};
+use crate::calls::{BundleCalls, MODEL, MODEL_BINARY_READER, MODEL_BINARY_WRITER, MODEL_BUNDLE_WRITER};
+use crate::gen::{binary_contents, records};
+use crate::model::binary_writer::Content;
 use crate::model::bundle::{check, entries, normalise, pick, Checked, Picked};
 use crate::model::id::{meaning, same_target, Meaning};
 use crate::model::{integer, COUNT, LENGTH, NONE, RANGE, TWICE};
@@ -26,7 +28,7 @@ fn bundles_meet_every_line() {
 
 #[test]
 fn the_bundle_writer_meets_every_line() {
-    meets_every_line(bundle_writer::BundleWriters::new(MODEL_BUNDLE_WRITER));
+    meets_every_line(writers::Writers::<records::Case>::new(MODEL_BUNDLE_WRITER));
 }
 
 #[test]
@@ -36,12 +38,16 @@ fn binaries_meet_every_line() {
 
 #[test]
 fn the_binary_writer_meets_every_line() {
-    meets_every_line(binary_writer::BinaryWriters::new(MODEL_BINARY_WRITER));
+    meets_every_line(writers::Writers::<binary_contents::Case>::new(MODEL_BINARY_WRITER));
 }
 
 /// The call in which the first difference shows.
+fn found(mut family: impl Family) -> &'static str {
+    run(&mut family, 8000).expect_err("a slip that was not found").call
+}
+
 fn found_in(calls: BundleCalls) -> &'static str {
-    run(&mut bundles::Bundles::new(calls), 8000).expect_err("a slip that was not found").call
+    found(bundles::Bundles::new(calls))
 }
 
 /// Offset, size and ID of each row of a table that is whole.
@@ -143,26 +149,48 @@ fn hip_taken_for_hipv4_is_found() {
     assert_eq!(found_in(BundleCalls { pick, ..MODEL }), "pick");
 }
 
-fn normalise_number(number: fn(&[u8], &mut [u8]) -> u64) -> BundleCalls {
-    BundleCalls { normalise: MODEL.normalise.map(|calls| NormaliseCalls { number, ..calls }), ..MODEL }
+fn with_normalise(normalise: fn(&[u8], &mut [u8], Field) -> u64) -> BundleCalls {
+    BundleCalls { normalise, ..MODEL }
 }
 
 #[test]
 fn a_byte_written_beside_the_output_is_found() {
-    let beyond = normalise_number(|bundle, out| {
+    let beyond = with_normalise(|bundle, out, field| {
         let written = normalise(bundle, out);
         if let Some(byte) = out.get_mut(written.length as usize) {
             *byte ^= 1;
         }
-        written.number
+        field.of(written)
     });
     assert_eq!(found_in(beyond), "normalise");
-    let on_refusal = normalise_number(|bundle, out| {
+    let on_refusal = with_normalise(|bundle, out, field| {
         let written = normalise(bundle, out);
         if written.number == ROOM && !out.is_empty() {
             out[0] = bundle[0];
         }
-        written.number
+        field.of(written)
     });
     assert_eq!(found_in(on_refusal), "normalise");
+}
+
+#[test]
+fn slips_of_a_writer_are_found() {
+    let length_for_place =
+        found(writers::Writers::<records::Case>::new(|records, ids, images, out, field| match field {
+            Field::Place => MODEL_BUNDLE_WRITER(records, ids, images, out, Field::Length),
+            _ => MODEL_BUNDLE_WRITER(records, ids, images, out, field),
+        }));
+    assert_eq!(length_for_place, "bundle writer");
+    let no_flags = found(writers::Writers::<binary_contents::Case>::new(|content, strings, image, out, field| {
+        MODEL_BINARY_WRITER(&Content { flags: 0, ..content.clone() }, strings, image, out, field)
+    }));
+    assert_eq!(no_flags, "binary writer");
+}
+
+#[test]
+fn a_reader_that_stays_is_found() {
+    assert_eq!(
+        found(binaries::Binaries::new(|bytes, cursor| (MODEL_BINARY_READER(bytes, cursor).0, cursor))),
+        "binaries"
+    );
 }

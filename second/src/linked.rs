@@ -1,0 +1,202 @@
+//! The library's calls: those of include/offload.h, and those of crate `harness`, which has the reader and the two writers. A slice is a
+//! pointer and a length.
+
+use second::calls::{BundleCalls, Field};
+use second::model::binaries::{Binary, Cursor, Pair};
+use second::model::binary_writer::Content;
+use second::model::bundle::{Checked, Picked};
+use second::model::bundle_writer::Record;
+
+#[link(name = "offload", kind = "static")]
+extern "C" {
+    fn offload_check_number(bundle: *const u8, length: usize) -> u64;
+    fn offload_check_place(bundle: *const u8, length: usize) -> u64;
+    fn offload_check_count(bundle: *const u8, length: usize) -> u64;
+    fn offload_pick_number(bundle: *const u8, length: usize, device: *const u8, device_length: usize) -> u64;
+    fn offload_pick_place(bundle: *const u8, length: usize, device: *const u8, device_length: usize) -> u64;
+    fn offload_pick_index(bundle: *const u8, length: usize, device: *const u8, device_length: usize) -> u64;
+    fn offload_pick_position(bundle: *const u8, length: usize, device: *const u8, device_length: usize) -> u64;
+    fn offload_pick_size(bundle: *const u8, length: usize, device: *const u8, device_length: usize) -> u64;
+    fn offload_normalise_number(bundle: *const u8, length: usize, out: *mut u8, room: usize) -> u64;
+    fn offload_normalise_place(bundle: *const u8, length: usize, out: *mut u8, room: usize) -> u64;
+    fn offload_normalise_length(bundle: *const u8, length: usize, out: *mut u8, room: usize) -> u64;
+}
+
+#[link(name = "harness", kind = "static")]
+extern "C" {
+    fn offload_write_bundle_field(
+        records: *const EntryRecord,
+        record_count: usize,
+        ids: *const u8,
+        ids_length: usize,
+        images: *const u8,
+        images_length: usize,
+        out: *mut u8,
+        room: usize,
+        field: usize,
+    ) -> u64;
+    fn offload_write_binary_field(
+        image_kind: u64,
+        offload_kind: u64,
+        flags: u32,
+        image: *const u8,
+        image_length: usize,
+        pairs: *const StringPair,
+        pair_count: usize,
+        strings: *const u8,
+        strings_length: usize,
+        out: *mut u8,
+        room: usize,
+        field: usize,
+    ) -> u64;
+    fn offload_binaries_next(
+        binaries: *const u8,
+        length: usize,
+        position: usize,
+        taken: usize,
+        pair: usize,
+        numbers: *mut [u64; 16],
+    );
+}
+
+// The records of the two writers, as the library declares them.
+#[repr(C)]
+struct EntryRecord {
+    id_start: u64,
+    id_len: u64,
+    image_start: u64,
+    image_len: u64,
+}
+
+#[repr(C)]
+struct StringPair {
+    key_start: u64,
+    key_len: u64,
+    text_start: u64,
+    text_len: u64,
+}
+
+pub const BUNDLES: BundleCalls = BundleCalls { check, pick, normalise };
+
+fn check(bundle: &[u8]) -> Checked {
+    let (start, length) = (bundle.as_ptr(), bundle.len());
+    // SAFETY: the slice is as long as it says.
+    unsafe {
+        Checked {
+            number: offload_check_number(start, length),
+            place: offload_check_place(start, length),
+            count: offload_check_count(start, length),
+        }
+    }
+}
+
+fn pick(bundle: &[u8], device: &[u8]) -> Picked {
+    let (start, length) = (bundle.as_ptr(), bundle.len());
+    let (name, name_length) = (device.as_ptr(), device.len());
+    // SAFETY: the slices are as long as they say.
+    unsafe {
+        Picked {
+            number: offload_pick_number(start, length, name, name_length),
+            place: offload_pick_place(start, length, name, name_length),
+            index: offload_pick_index(start, length, name, name_length),
+            position: offload_pick_position(start, length, name, name_length),
+            size: offload_pick_size(start, length, name, name_length),
+        }
+    }
+}
+
+fn normalise(bundle: &[u8], out: &mut [u8], field: Field) -> u64 {
+    let call = match field {
+        Field::Number => offload_normalise_number,
+        Field::Place => offload_normalise_place,
+        Field::Length => offload_normalise_length,
+    };
+    // SAFETY: the slices are as long as they say, and the output shares no byte with the bundle.
+    unsafe { call(bundle.as_ptr(), bundle.len(), out.as_mut_ptr(), out.len()) }
+}
+
+pub fn write_bundle(records: &[Record], ids: &[u8], images: &[u8], out: &mut [u8], field: Field) -> u64 {
+    let records: Vec<EntryRecord> = records
+        .iter()
+        .map(|record| EntryRecord {
+            id_start: record.id_start,
+            id_len: record.id_length,
+            image_start: record.image_start,
+            image_len: record.image_length,
+        })
+        .collect();
+    // SAFETY: the slices are as long as they say, and the output shares no byte with another.
+    unsafe {
+        offload_write_bundle_field(
+            records.as_ptr(),
+            records.len(),
+            ids.as_ptr(),
+            ids.len(),
+            images.as_ptr(),
+            images.len(),
+            out.as_mut_ptr(),
+            out.len(),
+            field as usize,
+        )
+    }
+}
+
+pub fn write_binary(content: &Content, strings: &[u8], image: &[u8], out: &mut [u8], field: Field) -> u64 {
+    let pairs: Vec<StringPair> = content
+        .pairs
+        .iter()
+        .map(|pair| StringPair {
+            key_start: pair.key_start,
+            key_len: pair.key_length,
+            text_start: pair.text_start,
+            text_len: pair.text_length,
+        })
+        .collect();
+    // SAFETY: the slices are as long as they say, and the output shares no byte with another.
+    unsafe {
+        offload_write_binary_field(
+            content.image_kind,
+            content.offload_kind,
+            content.flags,
+            image.as_ptr(),
+            image.len(),
+            pairs.as_ptr(),
+            pairs.len(),
+            strings.as_ptr(),
+            strings.len(),
+            out.as_mut_ptr(),
+            out.len(),
+            field as usize,
+        )
+    }
+}
+
+/// What a reader of the library answers that stands at the cursor, and its cursor afterwards. A call gives one string pair.
+pub fn next(binaries: &[u8], cursor: Cursor) -> (Binary, Cursor) {
+    let call = |pair: u64| {
+        let mut numbers = [0; 16];
+        let (start, length, taken) = (binaries.as_ptr(), binaries.len(), cursor.taken as usize);
+        // SAFETY: the slice is as long as it says, and there is room for sixteen numbers.
+        unsafe { offload_binaries_next(start, length, cursor.at, taken, pair as usize, &mut numbers) };
+        numbers
+    };
+    let pair = |k: u64| {
+        let numbers = call(k);
+        Pair { key_place: numbers[10], key_length: numbers[11], text_place: numbers[12], text_length: numbers[13] }
+    };
+    let numbers = call(0);
+    let binary = Binary {
+        number: numbers[0],
+        place: numbers[1],
+        first: numbers[2],
+        size: numbers[3],
+        image_kind: numbers[4],
+        offload_kind: numbers[5],
+        flags: numbers[6],
+        image_place: numbers[7],
+        image_length: numbers[8],
+        // The model has 32 at most.
+        pairs: (0..numbers[9].min(33)).map(pair).collect(),
+    };
+    (binary, Cursor { at: numbers[14] as usize, taken: numbers[15] })
+}
