@@ -1,8 +1,8 @@
 -- What the tests on canonical texts say of the meanings. Assumes nothing.
 use Prim.Native.Nat.{ℕ}
 use Prim.Native.Char.{code}
-use mathlib.Core.Path.{_≡_, refl, sym, ap, _∙_, subst}
-use mathlib.Core.Bool.{Bool, not, _&&_}
+use mathlib.Core.Path.{_≡_, sym, ap, ap₂, _∙_, subst}
+use mathlib.Core.Bool.{Bool, true, not, _&&_}
 use mathlib.Core.List.{List, [], _∷_, map}
 use lib.ListN.{getD}
 use lib.Dec.{T}
@@ -10,13 +10,14 @@ use Rattle.wire.specs.Lists.{agree}
 use Rattle.entry_id.specs.Text.{splitOn, joinWith}
 use Rattle.wire.specs.Bytes.{same}
 use Rattle.wire.proofs.ByteLaws.{same-refl, same-eq}
-use Rattle.wire.proofs.Bools.{bool-ext}
-use Rattle.entry_id.specs.Meaning.{Feature, piecesOf, feature, piece, sixFields, meaning, valid, canon}
+use Rattle.wire.proofs.Bools.{bool-ext, byBool, of-true}
+use Rattle.entry_id.specs.Meaning.{piecesOf, piece, sixFields, canonicalOf, meaning, valid, canon}
 use Rattle.entry_id.specs.Compare.{sameTarget, compatible, sameNames, sameMeaning, mixed}
-use Rattle.entry_id.proofs.ReadBack.{Proper, parts, proper-meaning, canon-is, canon-valid, canon-meaning, feature-piece, head-write, pieces-back, same-canon}
+use Rattle.entry_id.proofs.ReadBack.{Proper, parts, proper-meaning, canon-is, canon-valid, canon-meaning, head-write, pieces-back, same-canon}
 use Rattle.entry_id.proofs.FeatureLaws.{sameMeaning-eq, eq-sameMeaning}
 use Rattle.entry_id.proofs.CompareLaws.{compatible-pieces, sameTarget-heads}
-use Rattle.entry_id.specs.Canonical.{headOf, within, unsigned, samePieceNames, compatibleText, mixedText}
+use Rattle.entry_id.specs.Canonical.{headOf, within, sameButSign, compatibleText, mixedText}
+use Rattle.entry_id.proofs.SignLaws.{alike-names}
 
 module _ (x : List ℕ) (v : T (valid x)) where
   good : Proper (meaning x)
@@ -28,20 +29,6 @@ module _ (x : List ℕ) (v : T (valid x)) where
 
   pieces-canon : piecesOf (canon x) ≡ map piece (meaning x .features)
   pieces-canon = ap piecesOf (canon-is x v) ∙ pieces-back (meaning x) good
-
-bare-name : (f : Feature) → unsigned (piece f) ≡ f .name
-unfolding unsigned feature
-bare-name f = ap (λ (g : Feature). g .name) (feature-piece f)
-
-names-pieces : (a b : List Feature) → samePieceNames (map piece a) (map piece b) ≡ sameNames a b
-unfolding samePieceNames sameNames agree
-names-pieces [] [] = refl
-names-pieces [] (g ∷ b) = refl
-names-pieces (f ∷ a) [] = refl
-names-pieces (f ∷ a) (g ∷ b) =
-    ap (λ (c : Bool). c && samePieceNames (map piece a) (map piece b))
-    (ap (λ n. same n (unsigned (piece g))) (bare-name f) ∙ ap (λ n. same (f .name) n) (bare-name g))
-    ∙ ap (λ (c : Bool). same (f .name) (g .name) && c) (names-pieces a b)
 
 module _ (x y : List ℕ) (v : T (valid x)) (w : T (valid y)) where
   pub heads-sameTarget : same (headOf (canon x)) (headOf (canon y)) ≡ sameTarget (meaning x) (meaning y)
@@ -58,13 +45,19 @@ module _ (x y : List ℕ) (v : T (valid x)) (w : T (valid y)) where
       ap (λ (c : Bool). c && within (piecesOf (canon y)) (piecesOf (canon x))) (heads-sameTarget ∙ ap (λ z. sameTarget z (meaning y)) (sym m) ∙ ap (λ z. sameTarget (meaning (canon x)) z) (sym n))
       ∙ sym p ∙ ap (λ z. compatible z (meaning (canon y))) m ∙ ap (λ z. compatible (meaning x) z) n
 
+  -- canonical forms with the same head
+  alike-canonical : same (headOf (canon x)) (headOf (canon y)) ≡ true → agree sameButSign (canon x) (canon y) ≡ sameNames (meaning x .features) (meaning y .features)
+  unfolding canonicalOf
+  alike-canonical e =
+      let h : joinWith (code "-") (sixFields (meaning x)) ≡ joinWith (code "-") (sixFields (meaning y)) = sym (head-canon x v) ∙ same-eq _ _ (of-true _ e) ∙ head-canon y w in
+      ap₂ (agree sameButSign) (canon-is x v) (canon-is y w ∙ ap (λ l. joinWith (code ":") (l ∷ map piece (meaning y .features))) (sym h))
+      ∙ alike-names (joinWith (code "-") (sixFields (meaning x))) (meaning x .features) (meaning y .features) (good x v .all-named) (good y w .all-named)
+
   pub mixed-canonical : mixedText (canon x) (canon y) ≡ mixed (meaning x) (meaning y)
   unfolding mixedText mixed
-  mixed-canonical =
-      ap (λ (c : Bool). c && not (samePieceNames (piecesOf (canon x)) (piecesOf (canon y)))) heads-sameTarget
-      ∙ ap (λ (c : Bool). sameTarget (meaning x) (meaning y) && not c)
-      (ap (λ ps. samePieceNames ps (piecesOf (canon y))) (pieces-canon x v) ∙ ap (λ ps. samePieceNames (map piece (meaning x .features)) ps) (pieces-canon y w)
-      ∙ names-pieces (meaning x .features) (meaning y .features))
+  mixed-canonical = byBool (same (headOf (canon x)) (headOf (canon y)))
+      (λ e. ap₂ (λ (s n : Bool). s && not n) heads-sameTarget (alike-canonical e))
+      (λ e. ap (λ (s : Bool). s && not (agree sameButSign (canon x) (canon y))) e ∙ ap (λ (s : Bool). s && not (sameNames (meaning x .features) (meaning y .features))) (sym e ∙ heads-sameTarget))
 
   -- the same meaning: the same canonical text
   pub same-canonical : same (canon x) (canon y) ≡ sameMeaning (meaning x) (meaning y)

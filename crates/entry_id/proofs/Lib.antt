@@ -2,6 +2,7 @@ pub mod TextLaws
 pub mod ReadBack
 pub mod FeatureLaws
 pub mod CompareLaws
+pub mod SignLaws
 pub mod CanonicalLaws
 pub mod Theorems
 pub mod ExamplesProof

@@ -2,10 +2,10 @@
 -- The theorem `EntryIds` of `Theorems` says that on canonical forms the tests on texts are the tests on meanings.
 use Prim.Native.Nat.{ℕ, _-_}
 use Prim.Native.Char.{code}
-use mathlib.Core.Bool.{Bool, not, _&&_, cond}
+use mathlib.Core.Bool.{Bool, not, _&&_, _||_, cond}
 use mathlib.Core.List.{List, []}
 use lib.ListN.{length, getD, take}
-use lib.Dec.{leb}
+use lib.Dec.{leb, eqb}
 use Rattle.wire.specs.Lists.{agree, any, every}
 use Rattle.wire.specs.Bytes.{same}
 use Rattle.wire.specs.Word.{word}
@@ -28,12 +28,13 @@ headKey x = let h = headOf x in word 8 h (length h - 8)
 unfoldable pub within : List (List ℕ) → List (List ℕ) → Bool
 within qs ps = every (λ p. any (same p) qs) ps
 
--- a piece without its sign
-unfoldable pub unsigned : List ℕ → List ℕ
-unsigned p = take (length p - 1) p
+-- a sign, `+` or `-`
+unfoldable pub signByte : ℕ → Bool
+signByte b = eqb b (code "+") || eqb b (code "-")
 
-unfoldable pub samePieceNames : List (List ℕ) → List (List ℕ) → Bool
-samePieceNames ps qs = agree (λ p q. same (unsigned p) (unsigned q)) ps qs
+-- of two bytes: the same, or both signs
+unfoldable pub sameButSign : ℕ → ℕ → Bool
+sameButSign x y = eqb x y || (signByte x && signByte y)
 
 unfoldable pub compatibleText : List ℕ → List ℕ → Bool
 compatibleText e d = same (headOf e) (headOf d) && within (piecesOf d) (piecesOf e)
@@ -41,5 +42,6 @@ compatibleText e d = same (headOf e) (headOf d) && within (piecesOf d) (piecesOf
 unfoldable pub sameText : List ℕ → List ℕ → Bool
 sameText a b = same a b
 
+-- equal heads and other feature names: texts with the same names are the same but for signs
 unfoldable pub mixedText : List ℕ → List ℕ → Bool
-mixedText a b = same (headOf a) (headOf b) && not (samePieceNames (piecesOf a) (piecesOf b))
+mixedText a b = same (headOf a) (headOf b) && not (agree sameButSign a b)
