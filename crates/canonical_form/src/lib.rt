@@ -40,18 +40,21 @@ fn no_form() -> Form
 pub fn canonical(id: &[u8], out: &mut [u8]) -> Form
     ensures { λ r. ⌜ (r ≡ formOf (canonicalIn (length (now (out .entry))) (now (id .entry)))) × (now (out .exit) ≡ canonicalIn (length (now (out .entry))) (now (id .entry)) ++ drop (r .length) (now (out .entry))) ⌝ }
 {
-    let m = plan::read(id);
+    let mut spans = [0usize; 8];
+    let m = plan::read(id, &mut spans);
     if !m.ok {
         return no_form();
     }
     let dashes = m.dashes;
-    if out.len() < id.len() + dashes {
+    let length = id.len() + dashes;
+    if out.len() < length {
         return no_form();
     }
-    let p = plan::put_head(out, id, m.at, dashes, m.stop);
-    let key = last_word(&out[..p]);
-    let spans = m.spans;
-    let length = plan::put_pieces(out, p, id, spans, m.n);
+    let upto = m.upto;
+    plan::put_text(out, id, m.at, dashes, upto);
+    let stop = m.stop;
+    let key = last_word(&out[..stop + dashes]);
+    plan::put_pieces(out, upto + dashes, id, &spans, m.n);
     Form { length, key }
 }
 
