@@ -13,9 +13,19 @@ use crate::scan::field_end;
 fn is_kind(k: &[u8]) -> bool
     ensures { λ r. ⌜ r ≡ any (same (now (k .entry))) kinds ⌝ }
 {
-    wire::same_bytes(k, b"host")
-        | (wire::same_bytes(k, b"hip")
-            | (wire::same_bytes(k, b"hipv4") | wire::same_bytes(k, b"openmp")))
+    if k.len() == 3 {
+        return wire::same_bytes(k, b"hip");
+    }
+    if k.len() == 4 {
+        return wire::same_bytes(k, b"host");
+    }
+    if k.len() == 5 {
+        return wire::same_bytes(k, b"hipv4");
+    }
+    if k.len() == 6 {
+        return wire::same_bytes(k, b"openmp");
+    }
+    false
 }
 
 fn is_proc(f: &[u8]) -> bool

@@ -7,16 +7,33 @@ ghost use Rattle.entry_id.specs.Meaning.{fieldByte, nameByte};
 ghost use Rattle.canonical_form.specs.Scan.{Run, inClass, endsAt};
 ghost use Rattle.entry_id.specs.Text.{notColon};
 
+// Most bytes of an ID are small letters, and a byte below '0' ends most runs: these are asked first.
+
 fn name_byte(b: u8) -> bool
     ensures { λ r. ⌜ r ≡ nameByte b ⌝ }
 {
-    ((97 <= b) & (b <= 122)) | ((48 <= b) & (b <= 57)) | (b == 95)
+    if (97 <= b) & (b <= 122) {
+        return true;
+    }
+    if b <= 57 {
+        return 48 <= b;
+    }
+    b == 95
 }
 
 fn field_byte(b: u8) -> bool
     ensures { λ r. ⌜ r ≡ fieldByte b ⌝ }
 {
-    name_byte(b) | ((65 <= b) & (b <= 90)) | (b == 46)
+    if (97 <= b) & (b <= 122) {
+        return true;
+    }
+    if b < 46 {
+        return false;
+    }
+    if b <= 57 {
+        return b != 47;
+    }
+    ((65 <= b) & (b <= 90)) | (b == 95)
 }
 
 // A class of bytes.
