@@ -1,18 +1,18 @@
 -- The classes of bytes and the kinds, as the code asks for them. Assumes nothing.
 use Prim.Native.Nat.{ℕ, _≤_, _<_}
-use mathlib.Core.Path.{_≡_, refl, sym, _∙_}
+use mathlib.Core.Path.{_≡_, refl, sym, ap}
 use mathlib.Core.Logic.{inl, inr}
 use mathlib.Core.Bool.{Bool, true, false, not, _&&_, _||_}
 use mathlib.Core.List.{List, [], _∷_, _++_}
 use native.Mathlib.Omega.{arith}
-use lib.ListN.{length}
+use lib.ListN.{length, getD}
 use lib.Dec.{T, T-not, leb, eqb}
 use borrow.Author.Tests.{le-leb, lt-leb, eq-eqb, ne-eqb, eqb-true, eqb-false, leb-true, leb-false}
 use Rattle.wire.specs.Lists.{any, every}
 use Rattle.wire.specs.Bytes.{same}
 use Rattle.wire.proofs.Bools.{cases, of-true, and-l, and-r}
 use Rattle.wire.proofs.ByteLaws.{same-length}
-use Rattle.entry_id.specs.Meaning.{nameByte, fieldByte}
+use Rattle.entry_id.specs.Meaning.{nameByte, fieldByte, namesProcessor}
 
 or-swap : (a b : Bool) → (a || b) ≡ ((b || a) || false)
 or-swap true true = refl
@@ -82,3 +82,29 @@ module _ (k : List ℕ) where
   one-same w [] b s t = rw (sym (none-same b t)) (or-none (same k w))
   one-same w (v ∷ a) b s t =
       rw (other-not v (and-l (not (eqb (length k) (length v))) (every (λ u. not (eqb (length k) (length u))) a) s)) (one-same w a b (and-r (not (eqb (length k) (length v))) (every (λ u. not (eqb (length k) (length u))) a) s) t)
+
+-- ---- the start of a processor
+
+and-two : (p q : Bool) → (p && q) ≡ ((p && (q && true)) || false)
+and-two true true = refl
+and-two true false = refl
+and-two false q = refl
+
+and-last : (p q : Bool) → (p && q) ≡ (p && (q && true))
+and-last true true = refl
+and-last true false = refl
+and-last false q = refl
+
+pub proc-g : (f : List ℕ) → 3 ≤ length f → getD f 0 0 ≡ 103 → (eqb (getD f 1 0) 102 && eqb (getD f 2 0) 120) ≡ namesProcessor f
+unfolding namesProcessor same
+proc-g [] h e = absurd (omega arith)
+proc-g (a ∷ []) h e = absurd (omega arith)
+proc-g (a ∷ b ∷ []) h e = absurd (omega arith)
+proc-g (a ∷ b ∷ c ∷ f) h e = rw (eq-eqb a 103 e, ne-eqb a 115 (λ z. omega arith)) (and-two (eqb b 102) (eqb c 120))
+
+pub proc-s : (f : List ℕ) → 3 ≤ length f → (getD f 0 0 ≡ 103 → ⊥) → (eqb (getD f 0 0) 115 && (eqb (getD f 1 0) 109 && eqb (getD f 2 0) 95)) ≡ namesProcessor f
+unfolding namesProcessor same
+proc-s [] h n = absurd (omega arith)
+proc-s (a ∷ []) h n = absurd (omega arith)
+proc-s (a ∷ b ∷ []) h n = absurd (omega arith)
+proc-s (a ∷ b ∷ c ∷ f) h n = rw (ne-eqb a 103 n) (ap (λ r. eqb a 115 && r) (and-last (eqb b 109) (eqb c 95)))

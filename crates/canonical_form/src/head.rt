@@ -34,8 +34,10 @@ fn is_proc(f: &[u8]) -> bool
     if f.len() < 3 {
         return false;
     }
-    let p = &f[..3];
-    wire::same_bytes(p, b"gfx") | wire::same_bytes(p, b"sm_")
+    if f[0] == b'g' {
+        return (f[1] == b'f') & (f[2] == b'x');
+    }
+    (f[0] == b's') & ((f[1] == b'm') & (f[2] == b'_'))
 }
 
 // The end of the field, of at least one byte, that follows a '-' at a; 0 where there is none.
