@@ -1,5 +1,5 @@
 -- Spans in order of their names. Assumes nothing.
-use Prim.Native.Nat.{ℕ, zero, suc, _+_, _-_, _≤_, _<_}
+use Prim.Native.Nat.{ℕ, zero, suc, _+_, _≤_, _<_}
 use mathlib.Core.Path.{_≡_, refl, sym, ap, _∙_, subst}
 use mathlib.Core.Logic.{inl, inr}
 use mathlib.Core.Bool.{Bool, true, false, not, _&&_}
@@ -8,7 +8,7 @@ use borrow.Author.Tests.{eq-eqb, ne-eqb, eqb-true, eqb-false}
 use mathlib.Core.List.{append-nil, List, [], _∷_, _++_}
 use native.Mathlib.Numerals.{add-one}
 use native.Mathlib.Omega.{arith}
-use lib.ListN.{length, getD, take, drop, set, length-append, length-take, length-set, length-drop, drop-of-length-le}
+use lib.ListN.{length, getD, take, drop, set, length-append, length-take, length-set, drop-of-length-le}
 use lib.Seq.{take-suc, take-all, take-suc-set, take-set-le, take-set-lt, drop-set-lt, getD-set-same, getD-take, drop-cons, split-at, append-snoc, length-take-le, take-at, drop-at, getD-at}
 use Rattle.wire.specs.Order.{insertBy, risingBy, sortBy, distinctBy}
 use Rattle.wire.specs.Lists.{any}
@@ -115,28 +115,24 @@ and-true false = refl
 
 -- the list after the first elements are put in order
 module _ (x : List ℕ) (s t : List ℕ) (k : ℕ) (h : k < length s) (e : t ≡ take (suc k) s ++ sortBy (nameOf x) (drop (suc k) s)) where
-  pub sort-step : placed x t k ≡ take k s ++ sortBy (nameOf x) (drop k s)
-  unfolding placed sortBy
-  sort-step =
-      let v = getD s k 0 in
-      let r = sortBy (nameOf x) (drop (suc k) s) in
-      let w : t ≡ take k s ++ v ∷ r = e ∙ ap (λ l. l ++ r) (take-suc s k 0 h) ∙ append-snoc (take k s) v r in
-      let n = length-take-le k s (omega arith) in
-      let a : take k t ≡ take k s = ap (take k) w ∙ take-at (take k s) (v ∷ r) k n in
-      let b : getD t k 0 ≡ v = ap (λ l. getD l k 0) w ∙ getD-at (take k s) v r 0 k n in
-      let c : drop (suc k) t ≡ r = ap (drop (suc k)) (w ∙ sym (append-snoc (take k s) v r)) ∙ drop-at (take k s ++ v ∷ []) r (suc k) (omega (arith, length-append (take k s) (v ∷ []))) in
-      let d : sortBy (nameOf x) (drop k s) ≡ insertBy (nameOf x) v r = ap (sortBy (nameOf x)) (drop-cons s k 0 h) in
-      rw (a, b, c, d)
+  start-is : t ≡ take k s ++ getD s k 0 ∷ sortBy (nameOf x) (drop (suc k) s)
+  start-is = let r = sortBy (nameOf x) (drop (suc k) s) in e ∙ ap (λ l. l ++ r) (take-suc s k 0 h) ∙ append-snoc (take k s) (getD s k 0) r
 
   rest-is : (getD t k 0 ≡ getD s k 0) × (drop (suc k) t ≡ sortBy (nameOf x) (drop (suc k) s))
   rest-is =
       let v = getD s k 0 in
       let r = sortBy (nameOf x) (drop (suc k) s) in
-      let w : t ≡ take k s ++ v ∷ r = e ∙ ap (λ l. l ++ r) (take-suc s k 0 h) ∙ append-snoc (take k s) v r in
       let n = length-take-le k s (omega arith) in (
-        ap (λ l. getD l k 0) w ∙ getD-at (take k s) v r 0 k n,
-        ap (drop (suc k)) (w ∙ sym (append-snoc (take k s) v r)) ∙ drop-at (take k s ++ v ∷ []) r (suc k) (omega (arith, length-append (take k s) (v ∷ []))),
+        ap (λ l. getD l k 0) start-is ∙ getD-at (take k s) v r 0 k n,
+        ap (drop (suc k)) (start-is ∙ sym (append-snoc (take k s) v r)) ∙ drop-at (take k s ++ v ∷ []) r (suc k) (omega (arith, length-append (take k s) (v ∷ []))),
       )
+
+  pub sort-step : placed x t k ≡ take k s ++ sortBy (nameOf x) (drop k s)
+  unfolding placed sortBy
+  sort-step =
+      let n = length-take-le k s (omega arith) in
+      let a : take k t ≡ take k s = ap (take k) start-is ∙ take-at (take k s) (getD s k 0 ∷ sortBy (nameOf x) (drop (suc k) s)) k n in
+      rw (a, rest-is .0, rest-is .1, ap (sortBy (nameOf x)) (drop-cons s k 0 h))
 
   pub rest-rises : T (distinctBy (nameOf x) (drop (suc k) s)) → T (risingBy (nameOf x) (drop (suc k) t))
   rest-rises d = rw (rest-is .1) (distinct-rising (nameOf x) (drop (suc k) s) d)

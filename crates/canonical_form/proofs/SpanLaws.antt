@@ -1,5 +1,5 @@
 -- Features as spans: the scan, name and piece of a span. Assumes nothing.
-use Prim.Native.Nat.{ℕ, suc, _+_, _-_, _*_, _≤_, _<_}
+use Prim.Native.Nat.{ℕ, suc, _+_, _*_, _≤_, _<_}
 use mathlib.Core.Path.{_≡_, refl, sym, ap, _∙_, subst}
 use mathlib.Core.Logic.{_⊎_, inl, inr}
 use mathlib.Core.Bool.{Bool, true, false, _&&_, _||_}
@@ -14,7 +14,7 @@ use Rattle.wire.specs.Lists.{every}
 use Rattle.entry_id.specs.Text.{splitOn}
 use Rattle.wire.proofs.Bools.{and-l, and-r, and-t, is-true, is-false, of-true}
 use Rattle.entry_id.proofs.TextLaws.{every-append, split-some}
-use Rattle.entry_id.specs.Meaning.{piece, sign, nameByte}
+use Rattle.entry_id.specs.Meaning.{piece, nameByte}
 use Rattle.canonical_form.specs.Scan.{part, endsAt, piecesAt}
 use Rattle.canonical_form.specs.Spans.{pieceOk, signByte, Piece, good, pieceAt, atOf, signOf}
 use Rattle.canonical_form.proofs.PieceLaws.{colon-there, piece-split}

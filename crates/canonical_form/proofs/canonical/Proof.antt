@@ -1,8 +1,7 @@
 -- `canonical_form::canonical` meets its contract. Assumes nothing.
 use Prim.Native.Nat.{_+_, _-_, _≤_}
-use mathlib.Core.Path.{_≡_, refl, sym, _∙_, ap}
-use mathlib.Core.List.{_++_}
-use lib.ListN.{length, take, drop}
+use mathlib.Core.Path.{sym, _∙_, ap}
+use lib.ListN.{length}
 use lib.Seq.{length-take-le}
 use borrow.Author.Tests.{not-true, not-false}
 use Rattle.entry_id.specs.Canonical.{canonicalIn}

@@ -1,7 +1,5 @@
 -- `features::compared` meets its contract. Assumes nothing.
-use mathlib.Core.Path.{sym, ap, _∙_}
-use lib.ListN.{length, getD}
-use lib.Dec.{ltb, eqb}
+use mathlib.Core.Path.{sym}
 use native.Mathlib.Omega.{arith}
 use Rattle.wire.proofs.ByteLaws.{before-in, before-end, before-not}
 use Rattle.canonical_form.proofs.OrderLaws.{same-not, same-whole}

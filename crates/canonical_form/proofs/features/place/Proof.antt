@@ -2,7 +2,6 @@
 -- left says whether its name is new. Assumes nothing.
 use Prim.Native.Nat.{suc, _+_, _-_, _≤_, _<_}
 use mathlib.Core.Path.{_≡_, refl, sym, _∙_, subst}
-use mathlib.Core.Bool.{Bool, true, false}
 use lib.ListN.{length, getD, take, drop, length-set}
 use lib.Dec.{T}
 use borrow.Author.Tests.{eqb-true}

@@ -1,9 +1,9 @@
 -- `features::sort` meets its contract. The loop's invariant: what follows k is in order, and its names are apart. Assumes nothing.
 use Prim.Native.Nat.{suc, _+_, _-_, _≤_}
 use mathlib.Core.Path.{_≡_, refl, sym, ap, _∙_, subst}
-use mathlib.Core.Bool.{Bool, true, false, _&&_}
+use mathlib.Core.Bool.{true, false, _&&_}
 use mathlib.Core.List.{_++_}
-use lib.ListN.{length, getD, take, drop}
+use lib.ListN.{length, take, drop}
 use lib.Seq.{length-take-le, getD-take}
 use lib.Dec.{T}
 use borrow.Author.Tests.{not-true, not-false}
@@ -12,7 +12,6 @@ use Rattle.wire.specs.Order.{sortBy, distinctBy}
 use Rattle.canonical_form.specs.Spans.{nameOf, newName}
 use Rattle.canonical_form.proofs.OrderLaws.{sort-step, sort-none, rest-rises, new-distinct, distinct-drop, distinct-none}
 use native.Mathlib.Omega.{arith}
-use borrow.Author.Needs.{needs}
 use Rattle.canonical_form.proofs.features.sort.Statement.{statement}
 use Rattle.canonical_form.proofs.features.sort.Tie as tie
 

@@ -1,6 +1,6 @@
 -- `plan::put_text` meets its contract. Assumes nothing.
 use Prim.Native.Nat.{ℕ, _+_, _-_}
-use mathlib.Core.Path.{_≡_, refl, sym, _∙_, ap}
+use mathlib.Core.Path.{sym, _∙_, ap}
 use mathlib.Core.List.{[], _∷_}
 use lib.ListN.{take, drop}
 use lib.Seq.{length-take-le}

@@ -1,13 +1,10 @@
 -- `plan::read` meets its contract. Assumes nothing.
 use Prim.Native.Nat.{_+_, _≤_}
-use mathlib.Core.Path.{_≡_, sym, _∙_, ap, subst}
-use mathlib.Core.Bool.{Bool, true, false}
+use mathlib.Core.Path.{sym, _∙_, ap}
 use mathlib.Core.List.{_++_}
 use lib.ListN.{length}
-use lib.Dec.{T}
 use borrow.Author.Tests.{not-true, not-false}
-use Rattle.canonical_form.specs.Spans.{nameOf, chunks, headText}
-use Rattle.wire.specs.Order.{distinctBy}
+use Rattle.canonical_form.specs.Spans.{chunks, headText}
 use Rattle.canonical_form.proofs.PlanLaws.{plan-no, long-refused, pieces-refused, length-refused, order-refused, proc-refused, plan-yes, text-is, text-tidy}
 use native.Mathlib.Omega.{arith}
 use borrow.Author.Needs.{needs}

@@ -1,6 +1,5 @@
 -- `scan::field_end` meets its contract. The loop's invariant: every byte so far passes. Assumes nothing.
-use Prim.Native.Nat.{_+_, _-_, _≤_}
-use mathlib.Core.Path.{_≡_}
+use Prim.Native.Nat.{_-_, _≤_}
 use lib.ListN.{length}
 use lib.Dec.{T}
 use Rattle.wire.specs.Lists.{every}
@@ -8,7 +7,6 @@ use Rattle.entry_id.specs.Meaning.{fieldByte}
 use Rattle.canonical_form.specs.Scan.{part}
 use Rattle.canonical_form.proofs.RunLaws.{run-none, run-join}
 use native.Mathlib.Omega.{arith}
-use borrow.Author.Needs.{needs}
 use Rattle.canonical_form.proofs.scan.field_end.Statement.{statement}
 use Rattle.canonical_form.proofs.scan.field_end.Tie as tie
 

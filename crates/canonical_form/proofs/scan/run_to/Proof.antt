@@ -1,6 +1,5 @@
 -- `scan::run_to` meets its contract. The loop's invariant: every byte so far passes. Assumes nothing.
 use Prim.Native.Nat.{_≤_, _-_}
-use lib.ListN.{length}
 use lib.Dec.{T}
 use borrow.Author.Tests.{not-true, not-false}
 use mathlib.Core.Path.{sym, _∙_}
