@@ -1,3 +1,4 @@
+pub mod ClassLaws
 pub mod RunLaws
 pub mod CutLaws
 pub mod HeadLaws

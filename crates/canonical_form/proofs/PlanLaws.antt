@@ -7,7 +7,7 @@ use Prim.Native.Nat.{ℕ, suc, _+_, _-_, _≤_, _<_}
 use mathlib.Core.Path.{_≡_, refl, sym, ap, _∙_, subst}
 use mathlib.Core.Logic.{inl, inr}
 use mathlib.Core.Bool.{Bool, true, false, not, _&&_, _||_, cond}
-use mathlib.Core.List.{append-nil, List, [], _∷_, _++_, map}
+use mathlib.Core.List.{append-nil, append-assoc, List, [], _∷_, _++_, map}
 use native.Mathlib.Omega.{arith}
 use lib.ListN.{length, take, drop, length-append, length-map, length-drop, drop-of-length-le, replicate, length-replicate}
 use lib.Seq.{length-take-le, drop-cons, take-at}
@@ -15,7 +15,7 @@ use lib.Dec.{T, ltb, leb, le→leb, leb→le, ltb→lt}
 use borrow.Author.Tests.{lt-ltb, ltb-true, ltb-false}
 use Rattle.wire.proofs.SortLaws.{sort-every, sort-length}
 use Rattle.wire.specs.Lists.{any, every}
-use Rattle.wire.specs.Order.{insertBy, risingBy, sortBy}
+use Rattle.wire.specs.Order.{insertBy, risingBy, sortBy, distinctBy}
 use Rattle.entry_id.specs.Text.{splitOn, joinWith}
 use Rattle.wire.specs.Bytes.{same, empty, before}
 use Rattle.wire.proofs.Bools.{and-l, and-r, and-t, or-t, or-l, or-r, is-true, is-false, of-true, cond-ind, cases}
@@ -24,34 +24,34 @@ use Rattle.entry_id.specs.Meaning.{byName, Feature, fieldsOf, piecesOf, feature
 use Rattle.entry_id.proofs.ReadBack.{parts, canon-is, canon-refused}
 use Rattle.entry_id.proofs.CompareLaws.{piece-feature, valid-signed}
 use Rattle.canonical_form.specs.Scan.{part, HeadAt, piecesAt}
-use Rattle.canonical_form.specs.Spans.{pieceOk, good, pieceAt, nameOf, chunkOf, chunks, Pieces, headText, PlanAt, PlanIs}
-use Rattle.entry_id.specs.Canonical.{canonicalIn, headOf, headKey}
-use Rattle.canonical_form.specs.declared.features.Span.{Span}
-use Rattle.canonical_form.proofs.RunLaws.{part-cons, part-length}
+use Rattle.canonical_form.specs.Spans.{pieceOk, good, pieceAt, atOf, signOf, nameOf, chunkOf, chunks, Pieces, headText, PlanAt, PlanIs}
+use Rattle.entry_id.specs.Canonical.{canonicalIn, headOf, headKey, headNumber}
+use Rattle.canonical_form.proofs.RunLaws.{part-cons, part-length, part-split, part-rest}
 use Rattle.wire.specs.Bytes.{overwrite}
 use Rattle.wire.proofs.OverwriteLaws.{overwrite-in, overwrite-then}
 use Rattle.canonical_form.proofs.PieceLaws.{piece-ok, name-is, colon-there}
 use Rattle.canonical_form.proofs.SpanLaws.{Good, good-parts, pieces-here, pieces-none}
 use Rattle.canonical_form.proofs.HeadLaws.{not-t, valid-parts}
+use Rattle.canonical_form.proofs.OrderLaws.{distinct-is}
 
 -- ---- one span
 
-unfoldable featOf : List ℕ → Span → Feature
+unfoldable featOf : List ℕ → ℕ → Feature
 featOf x s = feature (pieceAt x s)
 
-module _ (x : List ℕ) (s : Span) (t : T (good x s)) where
+module _ (x : List ℕ) (s : ℕ) (t : T (good x s)) where
   g : Good x s
   g = good-parts x s t
 
   ok : T (pieceOk (pieceAt x s))
   unfolding pieceAt
-  ok = piece-ok x (suc (s .at)) (s .sign) (g .piece)
+  ok = piece-ok x (suc (atOf s)) (signOf s) (g .piece)
 
   name-of : nameOf x s ≡ featOf x s .name
   unfolding nameOf featOf pieceAt
   name-of =
       let l = g .piece .some in
-      rw (lt-ltb (s .sign) (length x) (g .piece .inside), lt-ltb (s .at) (s .sign) (omega arith)) (sym (name-is x (suc (s .at)) (s .sign) (g .piece)))
+      rw (lt-ltb (signOf s) (length x) (g .piece .inside), lt-ltb (atOf s) (signOf s) (omega arith)) (sym (name-is x (suc (atOf s)) (signOf s) (g .piece)))
 
   signed-of : T (signed (pieceAt x s))
   unfolding pieceOk
@@ -70,13 +70,13 @@ module _ (x : List ℕ) (s : Span) (t : T (good x s)) where
   chunk-of =
       let l = g .piece .some in
       let i = g .piece .inside in
-      rw (lt-ltb (s .sign) (length x) (g .piece .inside), lt-ltb (s .at) (s .sign) (omega arith))
-      (part-cons x (s .at) (suc (s .sign)) 58 (g .colon) (omega arith) (omega arith) ∙ ap (λ p. 58 ∷ p) (sym piece-of))
+      rw (lt-ltb (signOf s) (length x) (g .piece .inside), lt-ltb (atOf s) (signOf s) (omega arith))
+      (part-cons x (atOf s) (suc (signOf s)) 58 (g .colon) (omega arith) (omega arith) ∙ ap (λ p. 58 ∷ p) (sym piece-of))
 
 -- ---- order
 
 module _ (x : List ℕ) where
-  map-insert : (f : Span) (l : List Span) → T (good x f) → T (every (good x) l) → insertBy byName (featOf x f) (map (featOf x) l) ≡ map (featOf x) (insertBy (nameOf x) f l)
+  map-insert : (f : ℕ) (l : List ℕ) → T (good x f) → T (every (good x) l) → insertBy byName (featOf x f) (map (featOf x) l) ≡ map (featOf x) (insertBy (nameOf x) f l)
   unfolding insertBy every
   map-insert f [] s t = refl
   map-insert f (h ∷ l) s t =
@@ -88,7 +88,7 @@ module _ (x : List ℕ) where
         | inr e ↦ rw (q ∙ e, e) (ap (λ r. featOf x h ∷ r) (map-insert f l s (and-r (good x h) (every (good x) l) t)))
       ]
 
-  map-sort : (l : List Span) → T (every (good x) l) → sortBy byName (map (featOf x) l) ≡ map (featOf x) (sortBy (nameOf x) l)
+  map-sort : (l : List ℕ) → T (every (good x) l) → sortBy byName (map (featOf x) l) ≡ map (featOf x) (sortBy (nameOf x) l)
   unfolding sortBy every
   map-sort [] t = refl
   map-sort (f ∷ l) t =
@@ -96,7 +96,7 @@ module _ (x : List ℕ) where
       let r = and-r (good x f) (every (good x) l) t in
       rw (map-sort l r) (map-insert f (sortBy (nameOf x) l) s (rw (sort-every (nameOf x) (good x) l) r))
 
-  rising-map : (l : List Span) → T (every (good x) l) → risingBy byName (map (featOf x) l) ≡ risingBy (nameOf x) l
+  rising-map : (l : List ℕ) → T (every (good x) l) → risingBy byName (map (featOf x) l) ≡ risingBy (nameOf x) l
   unfolding risingBy every
   rising-map [] t = refl
   rising-map (f ∷ []) t = refl
@@ -108,7 +108,7 @@ module _ (x : List ℕ) where
       let q = ap (λ u. before u (featOf x h .name)) (sym a) ∙ ap (λ u. before (nameOf x f) u) (sym b) in
       ap (λ c. c && risingBy byName (map (featOf x) (h ∷ l))) q ∙ ap (λ c. before (nameOf x f) (nameOf x h) && c) (rising-map (h ∷ l) r)
 
-  join-chunks : (h : List ℕ) (l : List Span) → T (every (good x) l) → joinWith 58 (h ∷ map piece (map (featOf x) l)) ≡ h ++ chunks x l
+  join-chunks : (h : List ℕ) (l : List ℕ) → T (every (good x) l) → joinWith 58 (h ∷ map piece (map (featOf x) l)) ≡ h ++ chunks x l
   unfolding joinWith chunks every
   join-chunks h [] t = sym (append-nil h)
   join-chunks h (s ∷ l) t =
@@ -116,19 +116,19 @@ module _ (x : List ℕ) where
       let r = and-r (good x s) (every (good x) l) t in
       ap (λ j. h ++ 58 ∷ j) (join-chunks (piece (featOf x s)) l r) ∙ ap (λ c. h ++ (c ++ chunks x l)) (sym (chunk-of x s a))
 
-  all-named : (l : List Span) → T (every (good x) l) → T (every named (map (featOf x) l))
+  all-named : (l : List ℕ) → T (every (good x) l) → T (every named (map (featOf x) l))
   unfolding every
   all-named [] t = tt
   all-named (s ∷ l) t =
       and-t (named (featOf x s)) (every named (map (featOf x) l)) (named-of x s (and-l (good x s) (every (good x) l) t)) (all-named l (and-r (good x s) (every (good x) l) t))
 
-  all-signed : (l : List Span) → T (every (good x) l) → T (every signed (map (pieceAt x) l))
+  all-signed : (l : List ℕ) → T (every (good x) l) → T (every signed (map (pieceAt x) l))
   unfolding every
   all-signed [] t = tt
   all-signed (s ∷ l) t =
       and-t (signed (pieceAt x s)) (every signed (map (pieceAt x) l)) (signed-of x s (and-l (good x s) (every (good x) l) t)) (all-signed l (and-r (good x s) (every (good x) l) t))
 
-  features-of : (l : List Span) → map feature (map (pieceAt x) l) ≡ map (featOf x) l
+  features-of : (l : List ℕ) → map feature (map (pieceAt x) l) ≡ map (featOf x) l
   unfolding featOf
   features-of [] = refl
   features-of (s ∷ l) = ap (λ r. featOf x s ∷ r) (features-of l)
@@ -196,9 +196,15 @@ unfolding headText
 head-length x at dashes stop h k =
     omega (arith, length-append (take at x ++ replicate dashes 45) (part x at stop), length-append (take at x) (replicate dashes 45), length-replicate {A = ℕ} dashes 45, length-take-le at x (omega arith), part-length x at stop h k)
 
+-- the text up to a later place
+pub head-more : (x : List ℕ) (at dashes stop upto : ℕ) → at ≤ stop → stop ≤ upto → headText x at dashes upto ≡ headText x at dashes stop ++ part x stop upto
+unfolding headText
+head-more x at dashes stop upto h k =
+    ap (λ l. take at x ++ replicate dashes 45 ++ l) (part-split x at stop upto h k) ∙ sym (append-assoc (take at x ++ replicate dashes 45) (part x at stop) (part x stop upto))
+
 -- ---- the features as they stand in the text
 
-insertS-length : (x : List ℕ) (f : Span) (l : List Span) → length (chunks x (insertBy (nameOf x) f l)) ≡ length (chunkOf x f) + length (chunks x l)
+insertS-length : (x : List ℕ) (f : ℕ) (l : List ℕ) → length (chunks x (insertBy (nameOf x) f l)) ≡ length (chunkOf x f) + length (chunks x l)
 unfolding insertBy chunks
 insertS-length x f [] = length-append (chunkOf x f) []
 insertS-length x f (h ∷ l) =
@@ -206,19 +212,19 @@ insertS-length x f (h ∷ l) =
     (length-append (chunkOf x f) (chunkOf x h ++ chunks x l))
     (omega (arith, length-append (chunkOf x h) (chunks x (insertBy (nameOf x) f l)), insertS-length x f l, length-append (chunkOf x h) (chunks x l)))
 
-sortS-length : (x : List ℕ) (l : List Span) → length (chunks x (sortBy (nameOf x) l)) ≡ length (chunks x l)
+sortS-length : (x : List ℕ) (l : List ℕ) → length (chunks x (sortBy (nameOf x) l)) ≡ length (chunks x l)
 unfolding sortBy chunks
 sortS-length x [] = refl
 sortS-length x (f ∷ l) = omega (arith, insertS-length x f (sortBy (nameOf x) l), sortS-length x l, length-append (chunkOf x f) (chunks x l))
 
-pieces-of : (x : List ℕ) (l : List Span) → T (every (good x) l) → map piece (map (featOf x) l) ≡ map (pieceAt x) l
+pieces-of : (x : List ℕ) (l : List ℕ) → T (every (good x) l) → map piece (map (featOf x) l) ≡ map (pieceAt x) l
 unfolding every
 pieces-of x [] t = refl
 pieces-of x (s ∷ l) t =
     ap (λ p. p ∷ map piece (map (featOf x) l)) (piece-of x s (and-l (good x s) (every (good x) l) t))
     ∙ ap (λ r. pieceAt x s ∷ r) (pieces-of x l (and-r (good x s) (every (good x) l) t))
 
-chunks-tail : (x : List ℕ) (l : List Span) → T (every (good x) l) → (q : List ℕ) (qs : List (List ℕ)) → map (pieceAt x) l ≡ q ∷ qs → chunks x l ≡ 58 ∷ joinWith 58 (map (pieceAt x) l)
+chunks-tail : (x : List ℕ) (l : List ℕ) → T (every (good x) l) → (q : List ℕ) (qs : List (List ℕ)) → map (pieceAt x) l ≡ q ∷ qs → chunks x l ≡ 58 ∷ joinWith 58 (map (pieceAt x) l)
 unfolding chunks every
 chunks-tail x [] t q qs e = let z : _≡_ {A = ℕ} 0 1 = cc in absurd (omega arith)
 chunks-tail x (s ∷ l) t q qs e =
@@ -226,7 +232,7 @@ chunks-tail x (s ∷ l) t q qs e =
     let r = and-r (good x s) (every (good x) l) t in
     ap (λ c. c ++ chunks x l) (chunk-of x s a) ∙ ap (λ j. 58 ∷ j) (sym (join-chunks x (piece (featOf x s)) l r) ∙ ap (joinWith 58) (pieces-of x (s ∷ l) t))
 
-none-of : (x : List ℕ) (l : List Span) → map (pieceAt x) l ≡ [] → chunks x l ≡ []
+none-of : (x : List ℕ) (l : List ℕ) → map (pieceAt x) l ≡ [] → chunks x l ≡ []
 unfolding chunks
 none-of x [] e = refl
 none-of x (s ∷ l) e = let z : _≡_ {A = ℕ} 0 1 = cc in absurd (omega arith)
@@ -241,11 +247,11 @@ module _ (x : List ℕ) (at dashes stop : ℕ) (proc : Bool) (h : HeadAt x at da
       let b : T (leb (length (piecesAt x stop)) 8) = le→leb (length (piecesAt x stop)) 8 (omega (arith, valid-few x v, ap length (h .pieces-are))) in
       not-t e (and-t (every pieceOk (piecesAt x stop)) (leb (length (piecesAt x stop)) 8) a b))
 
-  pub head-is : joinWith 45 (sixFields (meaning x)) ≡ headText x at dashes stop
+  head-is : joinWith 45 (sixFields (meaning x)) ≡ headText x at dashes stop
   unfolding headText
   head-is = h .form
 
-  module _ (n : ℕ) (t : List Span) (pc : Pieces x stop n t) where
+  module _ (n : ℕ) (t : List ℕ) (pc : Pieces x stop n t) where
     pieces-spans : piecesOf x ≡ map (pieceAt x) (take n t)
     pieces-spans = h .pieces-are ∙ pc .are
 
@@ -277,7 +283,7 @@ module _ (x : List ℕ) (at dashes stop : ℕ) (proc : Bool) (h : HeadAt x at da
           none-of x (take n t) (sym (pc .are) ∙ pieces-none x stop k) ∙ sym (drop-of-length-le x k)
     ]
 
-    pub write-length : length (canonicalOf (meaning x)) ≡ length x + dashes
+    write-length : length (canonicalOf (meaning x)) ≡ length x + dashes
     write-length =
         let w = h .within in
         omega (arith, ap length text-is ∙ length-append (headText x at dashes stop) (chunks x (sortBy (nameOf x) (take n t))), head-length x at dashes stop (h .place) (h .within), sortS-length x (take n t), ap length chunks-text ∙ length-drop stop x)
@@ -293,8 +299,18 @@ module _ (x : List ℕ) (at dashes stop : ℕ) (proc : Bool) (h : HeadAt x at da
     rising-is : risingBy byName (meaning x .features) ≡ risingBy (nameOf x) (sortBy (nameOf x) (take n t))
     rising-is = ap (risingBy byName) features-spans ∙ rising-map x (sortBy (nameOf x) (take n t)) sorted-good
 
-    pub order-refused : risingBy (nameOf x) (sortBy (nameOf x) (take n t)) ≡ false → valid x ≡ false
-    order-refused e = is-false (valid x) (λ v. not-t (rising-is ∙ e) (valid-parts x v .in-order))
+    apart-is : risingBy byName (meaning x .features) ≡ distinctBy (nameOf x) (take n t)
+    apart-is = rising-is ∙ sym (distinct-is (nameOf x) (take n t))
+
+    pub order-refused : distinctBy (nameOf x) (take n t) ≡ false → valid x ≡ false
+    order-refused e = is-false (valid x) (λ v. not-t (apart-is ∙ e) (valid-parts x v .in-order))
+
+    -- where nothing moved, the form is the text with the dashes put in
+    pub text-tidy : (u : List ℕ) → take n u ≡ sortBy (nameOf x) (take n t) → u ≡ t → canonicalOf (meaning x) ≡ headText x at dashes (length x) ++ chunks x (take 0 u)
+    unfolding chunks
+    text-tidy u e k =
+        text-is ∙ ap (λ l. headText x at dashes stop ++ chunks x l) (sym e ∙ ap (take n) k) ∙ ap (λ l. headText x at dashes stop ++ l) (chunks-text ∙ sym (part-rest x stop))
+        ∙ sym (head-more x at dashes stop (length x) (h .place) (h .within)) ∙ sym (append-nil (headText x at dashes (length x)))
 
     empty-length : {A : Type 0} (l : List A) → T (empty l) → length l ≡ 0
     empty-length [] e = refl
@@ -310,7 +326,7 @@ module _ (x : List ℕ) (at dashes stop : ℕ) (proc : Bool) (h : HeadAt x at da
           | inr u ↦ omega (arith, empty-length (meaning x .features) u, count-is)
         ])
 
-    module _ (short : length x + dashes ≤ 256) (pr : (ltb 0 n && not proc) ≡ false) (ris : risingBy (nameOf x) (sortBy (nameOf x) (take n t)) ≡ true) where
+    module _ (short : length x + dashes ≤ 256) (pr : (ltb 0 n && not proc) ≡ false) (ris : distinctBy (nameOf x) (take n t) ≡ true) where
       shaped-ok : T (shaped x)
       unfolding shaped
       shaped-ok =
@@ -331,7 +347,7 @@ module _ (x : List ℕ) (at dashes stop : ℕ) (proc : Bool) (h : HeadAt x at da
         | inr e ↦ or-r (not (empty (meaning x .processor))) (empty (meaning x .features)) (none-empty (meaning x .features) (omega (arith, count-is, ltb-false 0 n e)))
       ]
 
-      pub long-is : length (canonicalOf (meaning x)) ≡ length x + dashes
+      long-is : length (canonicalOf (meaning x)) ≡ length x + dashes
       long-is = write-length
 
       proper-ok : T (proper (meaning x))
@@ -344,17 +360,23 @@ module _ (x : List ℕ) (at dashes stop : ℕ) (proc : Bool) (h : HeadAt x at da
           let d : T (not (empty (m .system))) = h .system-some in
           let e : T (every (every fieldByte) (m .arch ∷ m .vendor ∷ m .system ∷ m .environment ∷ m .processor ∷ [])) = h .field-bytes in
           let f : T (every named (m .features)) = rw features-spans (all-named x (sortBy (nameOf x) (take n t)) sorted-good) in
-          let i : T (risingBy byName (m .features)) = of-true (risingBy byName (m .features)) (rising-is ∙ ris) in
+          let i : T (risingBy byName (m .features)) = of-true (risingBy byName (m .features)) (apart-is ∙ ris) in
           let j : T (leb (length (m .features)) 8) = le→leb (length (m .features)) 8 (omega (arith, count-is, pc .few)) in
           let k : T (not (empty (m .processor)) || empty (m .features)) = with-proc-ok in
           let l : T (leb (length (canonicalOf m)) 256) = le→leb (length (canonicalOf m)) 256 (omega (arith, long-is)) in
           search and-t depth 14
 
-      pub plan-valid : T (valid x)
+      plan-valid : T (valid x)
       unfolding valid
       plan-valid = and-t (shaped x) (proper (meaning x)) shaped-ok proper-ok
 
-pub plan-no : {x : List ℕ} {ok : Bool} {at dashes stop n : ℕ} {t : List Span} → valid x ≡ false → ok ≡ false → PlanIs x ok at dashes stop n t
+      pub plan-yes : (upto m : ℕ) (u : List ℕ) → stop ≤ upto → upto ≤ length x → m ≤ 8 → length u ≡ 8 → canonicalOf (meaning x) ≡ headText x at dashes upto ++ chunks x (take m u) → PlanIs x true at dashes stop upto m u
+      plan-yes upto m u b w f z e = record {
+        found = λ k. record { right = plan-valid; place = h .place; below = b; within = w; few-dashes = h .few; few = f; size = z; head = head-is; text = e; long = long-is };
+        refused = λ k. absurd (subst T k tt);
+      }
+
+pub plan-no : {x : List ℕ} {ok : Bool} {at dashes stop upto n : ℕ} {t : List ℕ} → valid x ≡ false → ok ≡ false → PlanIs x ok at dashes stop upto n t
 plan-no v e = record { found = λ t. let z : _≡_ {A = Bool} true false = sym t ∙ e in absurd (subst T z tt); refused = λ t. v }
 
 -- ---- writing
@@ -372,7 +394,7 @@ pub no-form-is : (f : List ℕ) (r : Form) (o : List ℕ) → r ≡ formOf [] �
 unfolding formOf
 no-form-is f r o e k = (e ∙ ap formOf (sym k), sym (ap (λ l. l ++ drop (r .length) o) k ∙ ap (λ n. drop n o) (ap (λ (z : Form). z .length) e)))
 
-module _ (x : List ℕ) (at dashes stop n : ℕ) (t : List Span) (p : PlanAt x at dashes stop n t) where
+module _ (x : List ℕ) (at dashes stop upto n : ℕ) (t : List ℕ) (p : PlanAt x at dashes stop upto n t) where
   canon-write : canon x ≡ canonicalOf (meaning x)
   canon-write = canon-is x (p .right)
 
@@ -380,45 +402,46 @@ module _ (x : List ℕ) (at dashes stop n : ℕ) (t : List Span) (p : PlanAt x a
   unfolding canonicalIn
   canon-small k h = rw (is-false (leb (length (canon x)) k) (λ u. let a = leb→le (length (canon x)) k u in omega (arith, ap length canon-write, p .long)))
 
-  pub plan-head : length (headText x at dashes stop) ≡ stop + dashes
-  plan-head = head-length x at dashes stop (p .place) (p .within)
+  plan-head : length (headText x at dashes upto) ≡ upto + dashes
+  plan-head = head-length x at dashes upto (omega (arith, p .place, p .below)) (p .within)
 
-  pub plan-length : stop + dashes + length (chunks x (take n t)) ≡ length x + dashes
-  plan-length = omega (arith, ap length (p .text) ∙ length-append (headText x at dashes stop) (chunks x (take n t)), plan-head, p .long)
+  pub plan-length : upto + dashes + length (chunks x (take n t)) ≡ length x + dashes
+  plan-length = omega (arith, ap length (p .text) ∙ length-append (headText x at dashes upto) (chunks x (take n t)), plan-head, p .long)
 
   module _ (o : List ℕ) (room : length x + dashes ≤ length o) where
-    pub canon-fits : canonicalIn (length o) x ≡ headText x at dashes stop ++ chunks x (take n t)
+    canon-fits : canonicalIn (length o) x ≡ headText x at dashes upto ++ chunks x (take n t)
     unfolding canonicalIn
     canon-fits =
         let k : T (leb (length (canon x)) (length o)) = le→leb (length (canon x)) (length o) (omega (arith, ap length canon-write, p .long)) in
         rw (is-true (leb (length (canon x)) (length o)) k) (canon-write ∙ p .text)
 
-    pub canon-length-is : length (canonicalIn (length o) x) ≡ stop + dashes + length (chunks x (take n t))
-    canon-length-is = omega (arith, ap length canon-fits ∙ length-append (headText x at dashes stop) (chunks x (take n t)), plan-head)
+    canon-length-is : length (canonicalIn (length o) x) ≡ length x + dashes
+    canon-length-is = ap length (canon-fits ∙ sym (p .text)) ∙ p .long
 
-    -- the head written: it is the form's head
-    pub head-written : (u : List ℕ) (r : ℕ) → u ≡ overwrite o 0 (headText x at dashes stop) → r ≡ stop + dashes → take r u ≡ headText x at dashes stop
-    head-written u r e k =
-        let hd = headText x at dashes stop in
-        ap (take r) (e ∙ overwrite-in o 0 hd (omega (arith, plan-head, plan-length))) ∙ take-at hd (drop (0 + length hd) o) r (plan-head ∙ sym k)
+    -- the text written: it starts with the form's head
+    pub head-written : (u : List ℕ) → u ≡ overwrite o 0 (headText x at dashes upto) → take (stop + dashes) u ≡ headText x at dashes stop
+    head-written u e =
+        let hd = headText x at dashes upto in
+        let hs = headText x at dashes stop in
+        let r = drop (0 + length hd) o in
+        ap (take (stop + dashes)) (e ∙ overwrite-in o 0 hd (omega (arith, plan-head, plan-length)) ∙ ap (λ l. l ++ r) (head-more x at dashes stop upto (p .place) (p .below)) ∙ append-assoc hs (part x stop upto) r)
+        ∙ take-at hs (part x stop upto ++ r) (stop + dashes) (head-length x at dashes stop (p .place) (omega (arith, p .below, p .within)))
 
     canon-head : headOf (canonicalIn (length o) x) ≡ headText x at dashes stop
     canon-head = ap headOf (canon-fits ∙ sym (canon-write ∙ p .text)) ∙ head-canon x (p .right) ∙ p .head
 
-    pub form-is : (len key : ℕ) → len ≡ stop + dashes + length (chunks x (take n t)) → key ≡ word 8 (headText x at dashes stop) (length (headText x at dashes stop) - 8)
-        → _≡_ {A = Form} (record { length = len; key = key }) (formOf (canonicalIn (length o) x))
+    pub form-is : (key : ℕ) → key ≡ headNumber (headText x at dashes stop)
+        → _≡_ {A = Form} (record { length = length x + dashes; key = key }) (formOf (canonicalIn (length o) x))
     unfolding formOf headKey
-    form-is len key e f =
-        let l : len ≡ length (canonicalIn (length o) x) = e ∙ sym canon-length-is in
-        let k : key ≡ word 8 (headOf (canonicalIn (length o) x)) (length (headOf (canonicalIn (length o) x)) - 8) = f ∙ ap (λ h. word 8 h (length h - 8)) (sym canon-head) in
-        λ i. record { length = l i; key = k i }
+    form-is key f =
+        let k : key ≡ headNumber (headOf (canonicalIn (length o) x)) = f ∙ ap headNumber (sym canon-head) in
+        λ i. record { length = sym canon-length-is i; key = k i }
 
     -- both parts written
-    pub canon-written : (u v : List ℕ) → u ≡ overwrite o 0 (headText x at dashes stop) → v ≡ overwrite u (stop + dashes) (chunks x (take n t))
-        → v ≡ canonicalIn (length o) x ++ drop (stop + dashes + length (chunks x (take n t))) o
+    pub canon-written : (u v : List ℕ) → u ≡ overwrite o 0 (headText x at dashes upto) → v ≡ overwrite u (upto + dashes) (chunks x (take n t)) → v ≡ canonicalIn (length o) x ++ drop (length x + dashes) o
     canon-written u v e f =
-        let hd = headText x at dashes stop in
+        let hd = headText x at dashes upto in
         let ch = chunks x (take n t) in
-        let w = overwrite-then o 0 (stop + dashes) hd ch (omega (arith, plan-head)) (omega (arith, plan-length)) in
-        let l : 0 + length (hd ++ ch) ≡ stop + dashes + length ch = omega (arith, length-append hd ch, plan-head) in
-        f ∙ ap (λ z. overwrite z (stop + dashes) ch) e ∙ w ∙ overwrite-in o 0 (hd ++ ch) (omega (arith, l, plan-length)) ∙ ap (λ k. hd ++ ch ++ drop k o) l ∙ ap (λ z. z ++ drop (stop + dashes + length ch) o) (sym canon-fits)
+        let w = overwrite-then o 0 (upto + dashes) hd ch (omega (arith, plan-head)) (omega (arith, plan-length)) in
+        let l : 0 + length (hd ++ ch) ≡ length x + dashes = omega (arith, length-append hd ch, plan-head, plan-length) in
+        f ∙ ap (λ z. overwrite z (upto + dashes) ch) e ∙ w ∙ overwrite-in o 0 (hd ++ ch) (omega (arith, l)) ∙ ap (λ k. hd ++ ch ++ drop k o) l ∙ ap (λ z. z ++ drop (length x + dashes) o) (sym canon-fits)

@@ -6,7 +6,7 @@ use mathlib.Core.Bool.{Bool, true, false, not}
 use mathlib.Core.List.{List, [], _∷_, _++_}
 use native.Mathlib.Omega.{arith}
 use lib.ListN.{length, getD, take, drop, length-take, length-drop, take-append-drop, List·getD-eq-default}
-use lib.Seq.{take-suc, drop-cons, drop-drop, getD-drop, length-take-le, take-add}
+use lib.Seq.{take-suc, take-all, drop-cons, drop-drop, getD-drop, length-take-le, take-add}
 use lib.Dec.{T, ltb}
 use borrow.Author.Tests.{ltb-true, ltb-false}
 use Rattle.wire.specs.Lists.{every}
@@ -41,6 +41,17 @@ part-drop x a e h =
     let f : a + (e - a) ≡ e = omega arith in
     sym (take-append-drop (e - a) (drop a x)) ∙ ap (λ r. take (e - a) (drop a x) ++ r) (drop-drop (e - a) a x ∙ ap (λ n. drop n x) f)
 
+pub part-split : {A : Type 0} (x : List A) (a b c : ℕ) → a ≤ b → b ≤ c → part x a c ≡ part x a b ++ part x b c
+unfolding part
+part-split x a b c h k =
+    let e : c - a ≡ (b - a) + (c - b) = omega arith in
+    let f : a + (b - a) ≡ b = omega arith in
+    ap (λ n. take n (drop a x)) e ∙ take-add (b - a) (c - b) (drop a x) ∙ ap (λ l. take (b - a) (drop a x) ++ take (c - b) l) (drop-drop (b - a) a x ∙ ap (λ n. drop n x) f)
+
+pub part-rest : {A : Type 0} (x : List A) (a : ℕ) → part x a (length x) ≡ drop a x
+unfolding part
+part-rest x a = take-all (length x - a) (drop a x) (omega (arith, length-drop a x))
+
 pub part-start : {A : Type 0} (x : List A) (e : ℕ) → part x 0 e ≡ take e x
 unfolding part
 part-start x e = let f : e - 0 ≡ e = omega arith in rw f
@@ -57,6 +68,10 @@ module _ (p : ℕ → Bool) (x : List ℕ) (a : ℕ) where
   run-more i h k t e =
       rw (part-more x 0 a i h k)
       (every-append p (part x a i) (getD x i 0 ∷ []) t (and-t (p (getD x i 0)) true (of-true (p (getD x i 0)) e) tt))
+
+  -- two runs one after the other
+  pub run-join : (i r : ℕ) → a ≤ i → i ≤ r → T (every p (part x a i)) → T (every p (part x i r)) → T (every p (part x a r))
+  run-join i r h k s t = rw (part-split x a i r h k) (every-append p (part x a i) (part x i r) s t)
 
 -- ---- bytes
 

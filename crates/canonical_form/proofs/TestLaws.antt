@@ -1,8 +1,8 @@
 -- The tests on two texts, piece by piece. Assumes nothing.
 use Prim.Native.Nat.{ℕ, suc, _+_, _-_, _≤_, _<_}
-use mathlib.Core.Path.{_≡_, refl, sym, ap, _∙_, subst}
+use mathlib.Core.Path.{_≡_, refl, sym, ap, ap₂, _∙_, subst}
 use mathlib.Core.Logic.{inl, inr}
-use mathlib.Core.Bool.{Bool, true, false, not}
+use mathlib.Core.Bool.{Bool, true, false, not, _&&_}
 use mathlib.Core.List.{append-nil, List, [], _∷_, _++_}
 use lib.ListN.{length, getD, drop, drop-of-length-le}
 use lib.Seq.{drop-cons}
@@ -16,9 +16,10 @@ use Rattle.wire.proofs.Bools.{cases}
 use Rattle.entry_id.specs.Meaning.{piecesOf}
 use Rattle.entry_id.proofs.ReadBack.{no-colon}
 use Rattle.canonical_form.specs.Scan.{part, Run, piecesAt, endsAt, MeetIs}
-use Rattle.entry_id.specs.Canonical.{headOf, within, unsigned, samePieceNames, compatibleText, mixedText}
+use Rattle.entry_id.specs.Canonical.{headOf, within, sameButSign, compatibleText, mixedText}
 use Rattle.canonical_form.proofs.RunLaws.{part-drop}
 use Rattle.canonical_form.proofs.SpanLaws.{pieces-here, pieces-none}
+use native.Mathlib.Omega.{arith}
 use native.Mathlib.Numerals.{add-one}
 
 module _ (x : List ℕ) (a r : ℕ) (h : Run notColon x a r) where
@@ -73,31 +74,6 @@ unfolding within every
 within-end x at qs k = rw (pieces-none x at k)
 
 -- ---- names
-
-module _ (a b : List ℕ) (i j e f : ℕ) (ka : i < length a) (kb : j < length b) (ra : Run notColon a (suc i) e) (rb : Run notColon b (suc j) f) where
-  pub names-yes : same (unsigned (part a (suc i) e)) (unsigned (part b (suc j) f)) ≡ true → samePieceNames (piecesAt a i) (piecesAt b j) ≡ samePieceNames (piecesAt a e) (piecesAt b f)
-  unfolding samePieceNames agree
-  names-yes t = rw (next-piece a i e ka ra, next-piece b j f kb rb, t)
-
-  pub names-no : same (unsigned (part a (suc i) e)) (unsigned (part b (suc j) f)) ≡ false → samePieceNames (piecesAt a i) (piecesAt b j) ≡ false
-  unfolding samePieceNames agree
-  names-no t = rw (next-piece a i e ka ra, next-piece b j f kb rb, t)
-
-some-pieces : (x : List ℕ) (at : ℕ) → at < length x → (q : List ℕ) × (qs : List (List ℕ)) × (piecesAt x at ≡ q ∷ qs)
-some-pieces x at k =
-    let (q, qs, e) = split-some 58 (drop (suc at) x) in
-    (q, qs, pieces-here x at k ∙ e)
-
-pub names-short : (a b : List ℕ) (i j : ℕ) → i < length a → length b ≤ j → samePieceNames (piecesAt a i) (piecesAt b j) ≡ false
-unfolding samePieceNames agree
-names-short a b i j k l = let (q, qs, e) = some-pieces a i k in rw (e, pieces-none b j l)
-
-pub names-end : (a b : List ℕ) (i j : ℕ) → length a ≤ i → samePieceNames (piecesAt a i) (piecesAt b j) ≡ leb (length b) j
-unfolding samePieceNames agree
-names-end a b i j k = elim (cases (leb (length b) j)) [
-  | inl u ↦ rw (u, pieces-none a i k, pieces-none b j (leb-true (length b) j u))
-  | inr u ↦ let (q, qs, e) = some-pieces b j (leb-false (length b) j u) in rw (u, pieces-none a i k, e)
-]
 
 -- ---- whole texts
 
@@ -178,10 +154,50 @@ module _ (a b : List ℕ) (r : ℕ) (m : MeetIs a b r) where
   unfolding compatibleText
   compatible-no h = rw (m .differ h)
 
-  pub mixed-yes : 0 < r → not (samePieceNames (piecesAt a (r - 1)) (piecesAt b (r - 1))) ≡ mixedText a b
+  -- of texts that are not the same but for signs
+  pub mixed-meet : agree sameButSign a b ≡ false → (q : Bool) → (0 < r → q ≡ true) → (r ≡ 0 → q ≡ false) → q ≡ mixedText a b
   unfolding mixedText
-  mixed-yes h = let f = m .found h in rw (f .0, pieces-is a (r - 1) (f .1 .0), pieces-is b (r - 1) (f .1 .1))
+  mixed-meet e q f g = elim (cases (ltb 0 r)) [
+    | inl z ↦ let k = ltb-true 0 r z in rw (e, m .found k .0) (f k)
+    | inr z ↦ let k : r ≡ 0 = omega (arith, ltb-false 0 r z) in rw (e, m .differ k) (g k)
+  ]
 
-  pub mixed-no : r ≡ 0 → false ≡ mixedText a b
-  unfolding mixedText
-  mixed-no h = rw (m .differ h)
+pub mixed-alike : (a b : List ℕ) → agree sameButSign a b ≡ true → false ≡ mixedText a b
+unfolding mixedText
+mixed-alike a b e = rw e (both-no (same (headOf a) (headOf b)))
+  where
+    both-no : (c : Bool) → false ≡ (c && false)
+    both-no true = refl
+    both-no false = refl
+
+-- ---- two texts, the same but for signs up to i
+
+pub alike-lengths : (a b : List ℕ) → (length a ≡ length b → ⊥) → agree sameButSign a b ≡ false
+unfolding agree
+alike-lengths [] [] h = absurd (h refl)
+alike-lengths [] (y ∷ b) h = refl
+alike-lengths (x ∷ a) [] h = refl
+alike-lengths (x ∷ a) (y ∷ b) h = rw (alike-lengths a b (λ (e : length a ≡ length b). h (ap suc e))) (both-no (sameButSign x y))
+  where
+    both-no : (c : Bool) → (c && false) ≡ false
+    both-no true = refl
+    both-no false = refl
+
+pub alike-next : (a b : List ℕ) (i : ℕ) (all : Bool) → i < length a → i < length b → agree sameButSign a b ≡ (all && agree sameButSign (drop i a) (drop i b))
+    → agree sameButSign a b ≡ ((all && sameButSign (getD a i 0) (getD b i 0)) && agree sameButSign (drop (i + 1) a) (drop (i + 1) b))
+unfolding agree
+alike-next a b i all h k e =
+    e ∙ ap (λ (c : Bool). all && c) (ap₂ (agree sameButSign) (drop-cons a i 0 h) (drop-cons b i 0 k)) ∙ assoc all
+    ∙ rw (add-one i)
+  where
+    assoc : (c : Bool) → (c && (sameButSign (getD a i 0) (getD b i 0) && agree sameButSign (drop (suc i) a) (drop (suc i) b))) ≡ ((c && sameButSign (getD a i 0) (getD b i 0)) && agree sameButSign (drop (suc i) a) (drop (suc i) b))
+    assoc true = refl
+    assoc false = refl
+
+pub alike-end : (a b : List ℕ) (i : ℕ) (all : Bool) → length a ≤ i → length b ≤ i → agree sameButSign a b ≡ (all && agree sameButSign (drop i a) (drop i b)) → all ≡ agree sameButSign a b
+unfolding agree
+alike-end a b i all h k e = sym (e ∙ ap (λ (c : Bool). all && c) (ap₂ (agree sameButSign) (drop-of-length-le a h) (drop-of-length-le b k)) ∙ and-yes all)
+  where
+    and-yes : (c : Bool) → (c && true) ≡ c
+    and-yes true = refl
+    and-yes false = refl

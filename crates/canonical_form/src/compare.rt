@@ -2,9 +2,9 @@
 ghost use mathlib.Core.Path.{_≡_};
 ghost use Prim.Native.Nat.{_+_, _-_, _<_};
 ghost use mathlib.Core.Bool.{true, false};
-ghost use Rattle.wire.specs.Lists.{any};
+ghost use Rattle.wire.specs.Lists.{any, agree};
 ghost use Rattle.wire.specs.Bytes.{same};
-ghost use Rattle.entry_id.specs.Canonical.{within, unsigned, samePieceNames};
+ghost use Rattle.entry_id.specs.Canonical.{within, signByte, sameButSign};
 ghost use Rattle.canonical_form.specs.Scan.{MeetIs, piecesAt};
 use crate::scan::colon;
 use crate::scan::ends;
@@ -39,35 +39,26 @@ pub(crate) fn all_in(a: &[u8], s: usize, b: &[u8], t: usize) -> bool
     true
 }
 
-// A piece without its sign.
-fn bare(p: &[u8]) -> &[u8]
-    ensures { λ r. ⌜ now r ≡ unsigned (now (p .entry)) ⌝ }
+fn sign_byte(b: u8) -> bool
+    ensures { λ r. ⌜ r ≡ signByte b ⌝ }
 {
-    if p.len() == 0 {
-        return &p[..0];
-    }
-    &p[..p.len() - 1]
+    (b == b'+') | (b == b'-')
 }
 
-// Whether the pieces of a and of b have the same names, one after the other.
-pub(crate) fn same_names(a: &[u8], s: usize, b: &[u8], t: usize) -> bool
-    ensures { λ r. ⌜ r ≡ samePieceNames (piecesAt (now (a .entry)) s) (piecesAt (now (b .entry)) t) ⌝ }
+// Whether a and b are the same but for signs: a flag and no way out of the loop, so many bytes are compared at once.
+pub(crate) fn alike(a: &[u8], b: &[u8]) -> bool
+    ensures { λ r. ⌜ r ≡ agree sameButSign (now (a .entry)) (now (b .entry)) ⌝ }
 {
-    let mut i = s;
-    let mut j = t;
-    while i < a.len() {
-        if j >= b.len() {
-            return false;
-        }
-        let e = colon(a, i + 1);
-        let f = colon(b, j + 1);
-        if !wire::same_bytes(bare(&a[i + 1..e]), bare(&b[j + 1..f])) {
-            return false;
-        }
-        i = e;
-        j = f;
+    if a.len() != b.len() {
+        return false;
     }
-    j >= b.len()
+    let mut all = true;
+    let mut i = 0;
+    while i < a.len() {
+        all = all & ((a[i] == b[i]) | (sign_byte(a[i]) & sign_byte(b[i])));
+        i += 1;
+    }
+    all
 }
 
 // Where the heads of a and b end, counted from 1, if they are the same; else 0. It stops at the first difference.

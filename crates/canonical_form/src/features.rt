@@ -1,11 +1,13 @@
-// The features of an ID as spans of its text, and their order.
+// The features of an ID as spans of its text, and their order. A span is one number: the place of its ':' and 256 times that of its sign.
 ghost use mathlib.Core.Path.{_≡_};
-ghost use Prim.Native.Nat.{_+_, _<_, _≤_};
+ghost use Prim.Native.Nat.{suc, _+_, _<_, _≤_};
 ghost use mathlib.Core.Bool.{true, false};
-ghost use lib.ListN.{length, take};
+ghost use lib.ListN.{length, take, drop};
+ghost use lib.Dec.{T};
 ghost use Rattle.canonical_form.specs.Scan.{endsAt};
-ghost use Rattle.canonical_form.specs.Spans.{PieceIs, PiecesIs, nameOf, chunkOf, placed};
-ghost use Rattle.wire.specs.Order.{sortBy, risingBy};
+ghost use Rattle.canonical_form.specs.Spans.{PieceIs, PiecesIs, PlacedIs, SortedIs, nameOf, chunkOf};
+ghost use Rattle.wire.specs.Bytes.{same, before};
+ghost use Rattle.wire.specs.Order.{risingBy};
 use crate::scan::byte;
 use crate::scan::ends;
 use crate::scan::name_end;
@@ -29,49 +31,37 @@ fn sign_at(id: &[u8], from: usize) -> usize
     0
 }
 
-// A feature: the place of its ':' and of its sign.
-pub(crate) struct Span {
-    pub at: usize,
-    pub sign: usize,
-}
-
-pub(crate) struct Table {
+// What was read: whether every piece is a feature, and how many there are.
+pub(crate) struct Found {
     pub ok: bool,
     pub n: usize,
-    pub spans: [Span; 8],
 }
 
-// The features after the head.
-pub(crate) fn read_pieces(id: &[u8], stop: usize) -> Table
-    requires { ⌜ (stop ≤ length (now id)) × (endsAt (now id) stop ≡ true) ⌝ }
-    ensures { λ r. ⌜ PiecesIs (now (id .entry)) stop (r .ok) (r .n) (r .spans) ⌝ }
+// Reads the features after the head into spans.
+pub(crate) fn read_pieces(id: &[u8], stop: usize, spans: &mut [usize]) -> Found
+    requires { ⌜ (length (now id) ≤ 256) × ((length (now spans) ≡ 8) × ((stop ≤ length (now id)) × (endsAt (now id) stop ≡ true))) ⌝ }
+    ensures { λ r. ⌜ PiecesIs (now (id .entry)) stop (r .ok) (r .n) (now (spans .exit)) ⌝ }
 {
-    let z = Span { at: 0, sign: 0 };
-    let mut spans = [z; 8];
     let mut n = 0;
     let mut at = stop;
     while at < id.len() {
         let sign = sign_at(id, at + 1);
         if (sign == 0) | (n == 8) {
-            return Table {
-                ok: false,
-                n: 0,
-                spans,
-            };
+            return Found { ok: false, n: 0 };
         }
-        spans[n] = Span { at, sign };
+        spans[n] = at + 256 * sign;
         n += 1;
         at = sign + 1;
     }
-    Table { ok: true, n, spans }
+    Found { ok: true, n }
 }
 
 // The name of a feature.
-fn name(id: &[u8], s: Span) -> &[u8]
+fn name(id: &[u8], s: usize) -> &[u8]
     ensures { λ r. ⌜ now r ≡ nameOf (now (id .entry)) s ⌝ }
 {
-    let at = s.at;
-    let sign = s.sign;
+    let at = s % 256;
+    let sign = s / 256;
     if id.len() <= sign {
         return &id[..0];
     }
@@ -82,11 +72,11 @@ fn name(id: &[u8], s: Span) -> &[u8]
 }
 
 // A feature with the ':' before it and its sign.
-pub(crate) fn chunk(id: &[u8], s: Span) -> &[u8]
+pub(crate) fn chunk(id: &[u8], s: usize) -> &[u8]
     ensures { λ r. ⌜ now r ≡ chunkOf (now (id .entry)) s ⌝ }
 {
-    let at = s.at;
-    let sign = s.sign;
+    let at = s % 256;
+    let sign = s / 256;
     if id.len() <= sign {
         return &id[..0];
     }
@@ -96,52 +86,95 @@ pub(crate) fn chunk(id: &[u8], s: Span) -> &[u8]
     &id[at..sign + 1]
 }
 
-// The feature at k goes to its place among those after it, which are in order.
-fn place(id: &[u8], t: [Span; 8], k: usize, n: usize) -> [Span; 8]
-    requires { ⌜ (k < n) × (n ≤ 8) ⌝ }
-    ensures { λ r. ⌜ (length r ≡ 8) × (take n r ≡ placed (now (id .entry)) (take n t) k) ⌝ }
+// How two names stand to each other, by one comparison.
+struct Standing {
+    before: bool,
+    same: bool,
+}
+
+fn compared(a: &[u8], b: &[u8]) -> Standing
+    ensures { λ r. ⌜ (r .before ≡ before (now (a .entry)) (now (b .entry))) × (r .same ≡ same (now (a .entry)) (now (b .entry))) ⌝ }
 {
-    let mut u = t;
+    let n = wire::common_prefix(a, b);
+    if n < b.len() {
+        if n < a.len() {
+            return Standing {
+                before: a[n] < b[n],
+                same: false,
+            };
+        }
+        return Standing {
+            before: true,
+            same: false,
+        };
+    }
+    Standing {
+        before: false,
+        same: n == a.len(),
+    }
+}
+
+// Whether a name is new, and whether its feature stays where it is.
+struct Placed {
+    ok: bool,
+    still: bool,
+}
+
+// The feature at k goes to its place among those after it, which are in order. A name that is there already is refused.
+fn place(id: &[u8], t: &mut [usize], k: usize, n: usize) -> Placed
+    requires { ⌜ (k < n) × ((n ≤ length (now t)) × ((length (now t) ≡ 8) × T (risingBy (nameOf (now id)) (drop (suc k) (take n (now t)))))) ⌝ }
+    ensures { λ r. ⌜ PlacedIs (now (id .entry)) (now (t .entry)) k n (r .ok) (r .still) (now (t .exit)) ⌝ }
+{
     let mut i = k;
     while i + 1 < n {
-        let f = u[i];
-        let g = u[i + 1];
-        if wire::comes_before(name(id, f), name(id, g)) {
-            return u;
+        let f = t[i];
+        let g = t[i + 1];
+        let o = compared(name(id, f), name(id, g));
+        if o.before {
+            return Placed {
+                ok: true,
+                still: i == k,
+            };
         }
-        u[i] = g;
-        u[i + 1] = f;
+        if o.same {
+            return Placed {
+                ok: false,
+                still: false,
+            };
+        }
+        t[i] = g;
+        t[i + 1] = f;
         i += 1;
     }
-    u
+    Placed {
+        ok: true,
+        still: i == k,
+    }
 }
 
-// The first n features, in order of their names.
-pub(crate) fn sorted(id: &[u8], t: [Span; 8], n: usize) -> [Span; 8]
-    requires { ⌜ n ≤ 8 ⌝ }
-    ensures { λ r. ⌜ (length r ≡ 8) × (take n r ≡ sortBy (nameOf (now (id .entry))) (take n t)) ⌝ }
+// Whether the names are apart, and whether the features were in order.
+pub(crate) struct Sorted {
+    pub ok: bool,
+    pub tidy: bool,
+}
+
+// Puts the first n features in order of their names.
+pub(crate) fn sort(id: &[u8], t: &mut [usize], n: usize) -> Sorted
+    requires { ⌜ (n ≤ 8) × (length (now t) ≡ 8) ⌝ }
+    ensures { λ r. ⌜ SortedIs (now (id .entry)) (now (t .entry)) n (r .ok) (r .tidy) (now (t .exit)) ⌝ }
 {
-    let mut u = t;
     let mut k = n;
+    let mut tidy = true;
     while 0 < k {
         k -= 1;
-        let v = place(id, u, k, n);
-        u = v;
-    }
-    u
-}
-
-// Whether each of the first n names stands before the next.
-pub(crate) fn in_order(id: &[u8], t: [Span; 8], n: usize) -> bool
-    requires { ⌜ n ≤ 8 ⌝ }
-    ensures { λ r. ⌜ r ≡ risingBy (nameOf (now (id .entry))) (take n t) ⌝ }
-{
-    let mut i = 0;
-    while i + 1 < n {
-        if !wire::comes_before(name(id, t[i]), name(id, t[i + 1])) {
-            return false;
+        let p = place(id, t, k, n);
+        if !p.ok {
+            return Sorted {
+                ok: false,
+                tidy: false,
+            };
         }
-        i += 1;
+        tidy = tidy & p.still;
     }
-    true
+    Sorted { ok: true, tidy }
 }

@@ -13,9 +13,19 @@ use crate::scan::field_end;
 fn is_kind(k: &[u8]) -> bool
     ensures { λ r. ⌜ r ≡ any (same (now (k .entry))) kinds ⌝ }
 {
-    wire::same_bytes(k, b"host")
-        | (wire::same_bytes(k, b"hip")
-            | (wire::same_bytes(k, b"hipv4") | wire::same_bytes(k, b"openmp")))
+    if k.len() == 3 {
+        return wire::same_bytes(k, b"hip");
+    }
+    if k.len() == 4 {
+        return wire::same_bytes(k, b"host");
+    }
+    if k.len() == 5 {
+        return wire::same_bytes(k, b"hipv4");
+    }
+    if k.len() == 6 {
+        return wire::same_bytes(k, b"openmp");
+    }
+    false
 }
 
 fn is_proc(f: &[u8]) -> bool
@@ -24,8 +34,10 @@ fn is_proc(f: &[u8]) -> bool
     if f.len() < 3 {
         return false;
     }
-    let p = &f[..3];
-    wire::same_bytes(p, b"gfx") | wire::same_bytes(p, b"sm_")
+    if f[0] == b'g' {
+        return (f[1] == b'f') & (f[2] == b'x');
+    }
+    (f[0] == b's') & ((f[1] == b'm') & (f[2] == b'_'))
 }
 
 // The end of the field, of at least one byte, that follows a '-' at a; 0 where there is none.

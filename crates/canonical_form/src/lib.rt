@@ -12,7 +12,7 @@ ghost use mathlib.Core.List.{[], _++_};
 ghost use lib.ListN.{length, drop};
 ghost use Rattle.wire.specs.Word.{word};
 ghost use Rattle.canonical_form.specs.Made.{formOf};
-ghost use Rattle.entry_id.specs.Canonical.{canonicalIn, compatibleText, sameText, mixedText};
+ghost use Rattle.entry_id.specs.Canonical.{headNumber, canonicalIn, compatibleText, sameText, mixedText};
 
 // A canonical form that was made: its length, and a number made from its head alone. Forms with equal heads have equal keys.
 pub struct Form {
@@ -30,6 +30,13 @@ fn last_word(head: &[u8]) -> u64
     wire::word8_at(head, head.len() - 8)
 }
 
+// The number of a head.
+fn head_number(head: &[u8]) -> u64
+    ensures { λ r. ⌜ r ≡ headNumber (now (head .entry)) ⌝ }
+{
+    std::num::wrapping_add_u64(wire::word8_at(head, 0), last_word(head))
+}
+
 fn no_form() -> Form
     ensures { λ r. ⌜ r ≡ formOf [] ⌝ }
 {
@@ -40,18 +47,21 @@ fn no_form() -> Form
 pub fn canonical(id: &[u8], out: &mut [u8]) -> Form
     ensures { λ r. ⌜ (r ≡ formOf (canonicalIn (length (now (out .entry))) (now (id .entry)))) × (now (out .exit) ≡ canonicalIn (length (now (out .entry))) (now (id .entry)) ++ drop (r .length) (now (out .entry))) ⌝ }
 {
-    let m = plan::read(id);
+    let mut spans = [0usize; 8];
+    let m = plan::read(id, &mut spans);
     if !m.ok {
         return no_form();
     }
     let dashes = m.dashes;
-    if out.len() < id.len() + dashes {
+    let length = id.len() + dashes;
+    if out.len() < length {
         return no_form();
     }
-    let p = plan::put_head(out, id, m.at, dashes, m.stop);
-    let key = last_word(&out[..p]);
-    let spans = m.spans;
-    let length = plan::put_pieces(out, p, id, spans, m.n);
+    let upto = m.upto;
+    plan::put_text(out, id, m.at, dashes, upto);
+    let stop = m.stop;
+    let key = head_number(&out[..stop + dashes]);
+    plan::put_pieces(out, upto + dashes, id, &spans, m.n);
     Form { length, key }
 }
 
@@ -77,9 +87,8 @@ pub fn same_meaning(a: &[u8], b: &[u8]) -> bool
 pub fn mixed(a: &[u8], b: &[u8]) -> bool
     ensures { λ r. ⌜ r ≡ mixedText (now (a .entry)) (now (b .entry)) ⌝ }
 {
-    let m = compare::meet(a, b);
-    if m == 0 {
+    if compare::alike(a, b) {
         return false;
     }
-    !compare::same_names(a, m - 1, b, m - 1)
+    compare::meet(a, b) != 0
 }

@@ -4,19 +4,36 @@ ghost use Prim.Native.Nat.{_<_, _≤_};
 ghost use mathlib.Core.Bool.{true};
 ghost use lib.ListN.{length, getD};
 ghost use Rattle.entry_id.specs.Meaning.{fieldByte, nameByte};
-ghost use Rattle.canonical_form.specs.Scan.{Run, inClass, endsAt};
+ghost use Rattle.canonical_form.specs.Scan.{Run, RunTo, inClass, endsAt};
 ghost use Rattle.entry_id.specs.Text.{notColon};
+
+// Most bytes of an ID are small letters, and a byte below '0' ends most runs: these are asked first.
 
 fn name_byte(b: u8) -> bool
     ensures { λ r. ⌜ r ≡ nameByte b ⌝ }
 {
-    ((97 <= b) & (b <= 122)) | ((48 <= b) & (b <= 57)) | (b == 95)
+    if (97 <= b) & (b <= 122) {
+        return true;
+    }
+    if b <= 57 {
+        return 48 <= b;
+    }
+    b == 95
 }
 
 fn field_byte(b: u8) -> bool
     ensures { λ r. ⌜ r ≡ fieldByte b ⌝ }
 {
-    name_byte(b) | ((65 <= b) & (b <= 90)) | (b == 46)
+    if (97 <= b) & (b <= 122) {
+        return true;
+    }
+    if b < 46 {
+        return false;
+    }
+    if b <= 57 {
+        return b != 47;
+    }
+    ((65 <= b) & (b <= 90)) | (b == 95)
 }
 
 // A class of bytes.
@@ -36,13 +53,13 @@ fn in_class(class: Class, b: u8) -> bool
     }
 }
 
-// The end of the run of bytes of the class that starts at from.
-fn run_end(x: &[u8], from: usize, class: Class) -> usize
-    requires { ⌜ from ≤ length (now x) ⌝ }
-    ensures { λ r. ⌜ Run (inClass class) (now (x .entry)) from r ⌝ }
+// The end of the run of bytes of the class that starts at from, up to `to`.
+fn run_to(x: &[u8], from: usize, to: usize, class: Class) -> usize
+    requires { ⌜ (from ≤ to) × (to ≤ length (now x)) ⌝ }
+    ensures { λ r. ⌜ RunTo (inClass class) (now (x .entry)) from to r ⌝ }
 {
     let mut i = from;
-    while i < x.len() {
+    while i < to {
         if !in_class(class, x[i]) {
             return i;
         }
@@ -51,18 +68,27 @@ fn run_end(x: &[u8], from: usize, class: Class) -> usize
     i
 }
 
+// Blocks of eight, whose loop is unrolled, and then the rest.
 pub(crate) fn field_end(x: &[u8], from: usize) -> usize
     requires { ⌜ from ≤ length (now x) ⌝ }
     ensures { λ r. ⌜ Run fieldByte (now (x .entry)) from r ⌝ }
 {
-    run_end(x, from, Class::Field)
+    let mut i = from;
+    while 8 <= x.len() - i {
+        let r = run_to(x, i, i + 8, Class::Field);
+        if r < i + 8 {
+            return r;
+        }
+        i = r;
+    }
+    run_to(x, i, x.len(), Class::Field)
 }
 
 pub(crate) fn name_end(x: &[u8], from: usize) -> usize
     requires { ⌜ from ≤ length (now x) ⌝ }
     ensures { λ r. ⌜ Run nameByte (now (x .entry)) from r ⌝ }
 {
-    run_end(x, from, Class::Name)
+    run_to(x, from, x.len(), Class::Name)
 }
 
 // The first ':' from `from` on, or the end.
@@ -70,7 +96,7 @@ pub(crate) fn colon(x: &[u8], from: usize) -> usize
     requires { ⌜ from ≤ length (now x) ⌝ }
     ensures { λ r. ⌜ Run notColon (now (x .entry)) from r ⌝ }
 {
-    run_end(x, from, Class::NotColon)
+    run_to(x, from, x.len(), Class::NotColon)
 }
 
 // The byte at i, or 0 past the end.

@@ -1,18 +1,16 @@
 -- Texts that a test relates have equal heads, and so equal numbers. Assumes nothing.
-use Prim.Native.Nat.{ℕ, _-_}
+use Prim.Native.Nat.{ℕ}
 use mathlib.Core.Path.{_≡_, ap}
 use mathlib.Core.Bool.{true}
 use mathlib.Core.List.{List}
-use lib.ListN.{length}
-use Rattle.wire.specs.Word.{word}
 use Rattle.wire.specs.Bytes.{same}
 use Rattle.wire.proofs.Bools.{and-both, of-true}
 use Rattle.wire.proofs.ByteLaws.{same-eq}
-use Rattle.entry_id.specs.Canonical.{headOf, headKey, compatibleText, sameText, mixedText}
+use Rattle.entry_id.specs.Canonical.{headOf, headNumber, headKey, compatibleText, sameText, mixedText}
 
 key-head : (a b : List ℕ) → same (headOf a) (headOf b) ≡ true → headKey a ≡ headKey b
 unfolding headKey
-key-head a b e = ap (λ h. word 8 h (length h - 8)) (same-eq (headOf a) (headOf b) (of-true _ e))
+key-head a b e = ap headNumber (same-eq (headOf a) (headOf b) (of-true _ e))
 
 pub key-same : (a b : List ℕ) → sameText a b ≡ true → headKey a ≡ headKey b
 unfolding sameText

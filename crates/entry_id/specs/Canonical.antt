@@ -1,6 +1,6 @@
 -- Canonical forms as code handles them: written into a lent buffer, and compared as texts. Definitions only.
 -- The theorem `EntryIds` of `Theorems` says that on canonical forms the tests on texts are the tests on meanings.
-use Prim.Native.Nat.{ℕ, _-_}
+use Prim.Native.Nat.{ℕ, _+_, _-_, _%_, _^_}
 use Prim.Native.Char.{code}
 use mathlib.Core.Bool.{Bool, not, _&&_, _||_, cond}
 use mathlib.Core.List.{List, []}
@@ -20,9 +20,13 @@ canonicalIn room x = cond (leb (length (canon x)) room) (canon x) []
 unfoldable pub headOf : List ℕ → List ℕ
 headOf x = getD (splitOn (code ":") x) 0 []
 
--- a number made from the head alone, so that texts with equal heads have equal ones: its last eight bytes as a word
+-- a number made from a head: the words of its first and of its last eight bytes, added
+unfoldable pub headNumber : List ℕ → ℕ
+headNumber h = (word 8 h 0 + word 8 h (length h - 8)) % 2 ^ 64
+
+-- that of a text's head, so that texts with equal heads have equal ones
 unfoldable pub headKey : List ℕ → ℕ
-headKey x = let h = headOf x in word 8 h (length h - 8)
+headKey x = headNumber (headOf x)
 
 -- each piece of ps stands among qs
 unfoldable pub within : List (List ℕ) → List (List ℕ) → Bool

@@ -1,20 +1,19 @@
 -- `canonical_form::canonical` meets its contract. Assumes nothing.
 use Prim.Native.Nat.{_+_, _-_, _≤_}
-use mathlib.Core.Path.{_≡_, refl, sym, _∙_, ap}
-use mathlib.Core.List.{_++_}
-use lib.ListN.{length, take, drop}
+use mathlib.Core.Path.{sym, _∙_, ap}
+use lib.ListN.{length}
 use lib.Seq.{length-take-le}
 use borrow.Author.Tests.{not-true, not-false}
-use Rattle.canonical_form.specs.Spans.{chunks, headText}
-use Rattle.entry_id.specs.Canonical.{canonicalIn}
-use Rattle.wire.specs.Bytes.{overwrite}
-use Rattle.wire.specs.Word.{word}
+use Rattle.entry_id.specs.Canonical.{canonicalIn, headNumber}
 use Rattle.wire.proofs.OverwriteLaws.{length-overwrite}
-use Rattle.canonical_form.proofs.PlanLaws.{no-form-is, canon-none, canon-small, plan-length, plan-head, canon-written, head-written, form-is}
+use Rattle.canonical_form.proofs.PlanLaws.{no-form-is, canon-none, canon-small, plan-length, canon-written, head-written, form-is}
 use native.Mathlib.Omega.{arith}
 use borrow.Author.Needs.{needs}
 use Rattle.canonical_form.proofs.canonical.Statement.{statement}
 use Rattle.canonical_form.proofs.canonical.Tie as tie
+
+slice-aggregate-read : tie.Need-slice-aggregate-read
+slice-aggregate-read c = search needs
 
 read-requires : tie.Need-read-requires
 read-requires c κs = search needs
@@ -24,17 +23,18 @@ no-form-requires c κs = search needs
 
 returns : tie.Need-returns
 returns c =
-    let x = c .before .before .before .before .before .before .args .id .now in
-    let o = c .before .before .before .before .before .before .args .out .now in
-    let e = canon-none (length o) x (c .before .before .before .read .ensures .refused (not-true _ (c .before .if1 .taken))) in
+    let x = c .before .before .before .before .before .before .before .before .args .id .now in
+    let o = c .before .before .before .before .before .before .before .before .args .out .now in
+    let e = canon-none (length o) x (c .before .before .before .before .read .ensures .refused (not-true _ (c .before .if1 .taken))) in
     no-form-is (canonicalIn (length o) x) (c .no-form .result) o (c .no-form .ensures) e
 
-add-if2 : tie.Need-add-if2
-add-if2 c =
-    let x = c .before .before .before .before .before .args .id .now in
-    let o = c .before .before .before .before .before .args .out .now in
-    let m = c .before .before .read .result in
-    let pl = c .before .before .read .ensures .found (not-false _ (c .if1 .left)) in
+add-length : tie.Need-add-length
+add-length c =
+    let x = c .before .before .before .before .before .before .before .args .id .now in
+    let o = c .before .before .before .before .before .before .before .args .out .now in
+    let m = c .before .before .before .read .result in
+    let t = c .before .before .before .read .last .1 .0 in
+    let pl = c .before .before .before .read .ensures .found (not-false _ (c .if1 .left)) in
     omega (arith, pl .few-dashes)
 
 no-form-requires-2 : tie.Need-no-form-requires-2
@@ -42,89 +42,113 @@ no-form-requires-2 c κs = search needs
 
 returns-2 : tie.Need-returns-2
 returns-2 c =
-    let x = c .before .before .before .before .before .before .before .args .id .now in
-    let o = c .before .before .before .before .before .before .before .args .out .now in
-    let m = c .before .before .before .before .read .result in
-    let pl = c .before .before .before .before .read .ensures .found (not-false _ (c .before .before .if1 .left)) in
-    let e = canon-small x (m .at) (m .dashes) (m .stop) (m .n) (m .spans) pl (length o) (c .before .if2 .taken) in
+    let x = c .before .before .before .before .before .before .before .before .before .args .id .now in
+    let o = c .before .before .before .before .before .before .before .before .before .args .out .now in
+    let m = c .before .before .before .before .before .read .result in
+    let t = c .before .before .before .before .before .read .last .1 .0 in
+    let pl = c .before .before .before .before .before .read .ensures .found (not-false _ (c .before .before .if1 .left)) in
+    let e = canon-small x (m .at) (m .dashes) (m .stop) (m .upto) (m .n) t pl (length o) (c .before .if2 .taken) in
     no-form-is (canonicalIn (length o) x) (c .no-form2 .result) o (c .no-form2 .ensures) e
 
-put-head-requires : tie.Need-put-head-requires
-put-head-requires c κs =
-    let x = c .before .before .before .before .before .before .before .args .id .now in
-    let o = c .before .before .before .before .before .before .before .args .out .now in
-    let m = c .before .before .before .before .read .result in
-    let pl = c .before .before .before .before .read .ensures .found (not-false _ (c .before .before .if1 .left)) in
-    (pl .place, (pl .within, (pl .few-dashes, omega (arith, pl .within, c .before .if2 .left))))
+put-text-requires : tie.Need-put-text-requires
+put-text-requires c κs =
+    let x = c .before .before .before .before .before .before .before .before .before .args .id .now in
+    let o = c .before .before .before .before .before .before .before .before .before .args .out .now in
+    let m = c .before .before .before .before .before .read .result in
+    let t = c .before .before .before .before .before .read .last .1 .0 in
+    let pl = c .before .before .before .before .before .read .ensures .found (not-false _ (c .before .before .if1 .left)) in
+    (omega (arith, pl .place, pl .below), (pl .within, (pl .few-dashes, omega (arith, pl .within, c .before .if2 .left))))
 
-slice-reshare-prefix-last-word : tie.Need-slice-reshare-prefix-last-word
-slice-reshare-prefix-last-word c =
-    let x = c .before .before .before .before .before .before .before .before .before .before .args .id .now in
-    let o = c .before .before .before .before .before .before .before .before .before .before .args .out .now in
-    let m = c .before .before .before .before .before .before .before .read .result in
-    let pl = c .before .before .before .before .before .before .before .read .ensures .found (not-false _ (c .before .before .before .before .before .if1 .left)) in
-    let h = c .before .before .put-head in
-    let z = ap length (h .ensures .1) ∙ length-overwrite o 0 _ in
-    omega (arith, z, h .ensures .0, pl .within, c .before .before .before .before .if2 .left)
-
-slice-aggregate-last-word : tie.Need-slice-aggregate-last-word
-slice-aggregate-last-word c =
-    let x = c .before .before .before .before .before .before .before .before .before .before .before .args .id .now in
-    let o = c .before .before .before .before .before .before .before .before .before .before .before .args .out .now in
+add-head-number : tie.Need-add-head-number
+add-head-number c =
+    let x = c .before .before .before .before .before .before .before .before .before .before .before .before .args .id .now in
+    let o = c .before .before .before .before .before .before .before .before .before .before .before .before .args .out .now in
     let m = c .before .before .before .before .before .before .before .before .read .result in
-    let pl = c .before .before .before .before .before .before .before .before .read .ensures .found (not-false _ (c .before .before .before .before .before .before .if1 .left)) in
-    let h = c .before .before .before .put-head in
-    let z = ap length (h .ensures .1) ∙ length-overwrite o 0 _ in
-    sym (length-take-le (h .result) (h .last .0) (omega (arith, z, h .ensures .0, pl .within, c .before .before .before .before .before .if2 .left)))
+    let t = c .before .before .before .before .before .before .before .before .read .last .1 .0 in
+    let pl = c .before .before .before .before .before .before .before .before .read .ensures .found (not-false _ (c .before .before .before .before .before .if1 .left)) in
+    omega (arith, pl .few-dashes, pl .below, pl .within)
 
-last-word-requires : tie.Need-last-word-requires
-last-word-requires c κs = search needs
+slice-reshare-prefix-head-number : tie.Need-slice-reshare-prefix-head-number
+slice-reshare-prefix-head-number c =
+    let x = c .before .before .before .before .before .before .before .before .before .before .before .before .args .id .now in
+    let o = c .before .before .before .before .before .before .before .before .before .before .before .before .args .out .now in
+    let m = c .before .before .before .before .before .before .before .before .read .result in
+    let t = c .before .before .before .before .before .before .before .before .read .last .1 .0 in
+    let pl = c .before .before .before .before .before .before .before .before .read .ensures .found (not-false _ (c .before .before .before .before .before .if1 .left)) in
+    let z = ap length (c .before .before .put-text .ensures) ∙ length-overwrite o 0 _ in
+    omega (arith, z, pl .below, pl .within, c .before .before .before .before .if2 .left)
+
+slice-aggregate-head-number : tie.Need-slice-aggregate-head-number
+slice-aggregate-head-number c =
+    let x = c .before .before .before .before .before .before .before .before .before .before .before .before .before .args .id .now in
+    let o = c .before .before .before .before .before .before .before .before .before .before .before .before .before .args .out .now in
+    let m = c .before .before .before .before .before .before .before .before .before .read .result in
+    let t = c .before .before .before .before .before .before .before .before .before .read .last .1 .0 in
+    let pl = c .before .before .before .before .before .before .before .before .before .read .ensures .found (not-false _ (c .before .before .before .before .before .before .if1 .left)) in
+    let h = c .before .before .before .put-text in
+    let z = ap length (h .ensures) ∙ length-overwrite o 0 _ in
+    sym (length-take-le (m .stop + m .dashes) (h .last .0) (omega (arith, z, pl .below, pl .within, c .before .before .before .before .before .if2 .left)))
+
+head-number-requires : tie.Need-head-number-requires
+head-number-requires c κs = search needs
+
+add-put-pieces : tie.Need-add-put-pieces
+add-put-pieces c =
+    let x = c .before .before .before .before .before .before .before .before .before .before .before .before .before .before .before .args .id .now in
+    let o = c .before .before .before .before .before .before .before .before .before .before .before .before .before .before .before .args .out .now in
+    let m = c .before .before .before .before .before .before .before .before .before .before .before .read .result in
+    let t = c .before .before .before .before .before .before .before .before .before .before .before .read .last .1 .0 in
+    let pl = c .before .before .before .before .before .before .before .before .before .before .before .read .ensures .found (not-false _ (c .before .before .before .before .before .before .before .before .if1 .left)) in
+    omega (arith, pl .few-dashes, pl .within)
+
+slice-aggregate-put-pieces : tie.Need-slice-aggregate-put-pieces
+slice-aggregate-put-pieces c = search needs
 
 put-pieces-requires : tie.Need-put-pieces-requires
 put-pieces-requires c κs =
-    let x = c .before .before .before .before .before .before .before .before .before .before .before .before .before .before .args .id .now in
-    let o = c .before .before .before .before .before .before .before .before .before .before .before .before .before .before .args .out .now in
-    let m = c .before .before .before .before .before .before .before .before .before .before .before .read .result in
-    let pl = c .before .before .before .before .before .before .before .before .before .before .before .read .ensures .found (not-false _ (c .before .before .before .before .before .before .before .before .before .if1 .left)) in
-    let h = c .before .before .before .before .before .before .put-head in
-    let k = plan-length x (m .at) (m .dashes) (m .stop) (m .n) (m .spans) pl in
-    let z = ap length (h .ensures .1) ∙ length-overwrite o 0 _ in
-    (pl .few, omega (arith, z, h .ensures .0, c .before .before .before .before .before .before .before .before .if2 .left))
+    let x = c .before .before .before .before .before .before .before .before .before .before .before .before .before .before .before .before .args .id .now in
+    let o = c .before .before .before .before .before .before .before .before .before .before .before .before .before .before .before .before .args .out .now in
+    let m = c .before .before .before .before .before .before .before .before .before .before .before .before .read .result in
+    let t = c .before .before .before .before .before .before .before .before .before .before .before .before .read .last .1 .0 in
+    let pl = c .before .before .before .before .before .before .before .before .before .before .before .before .read .ensures .found (not-false _ (c .before .before .before .before .before .before .before .before .before .if1 .left)) in
+    let z = ap length (c .before .before .before .before .before .before .put-text .ensures) ∙ length-overwrite o 0 _ in
+    (pl .few, (pl .size, omega (arith, z, plan-length x (m .at) (m .dashes) (m .stop) (m .upto) (m .n) t pl, c .before .before .before .before .before .before .before .before .if2 .left)))
 
 same-length : tie.Need-same-length
 same-length c = search needs
 
 returns-3 : tie.Need-returns-3
 returns-3 c =
-    let x = c .before .before .before .before .before .before .before .before .before .before .before .before .before .before .before .before .before .args .id .now in
-    let o = c .before .before .before .before .before .before .before .before .before .before .before .before .before .before .before .before .before .args .out .now in
-    let m = c .before .before .before .before .before .before .before .before .before .before .before .before .before .before .read .result in
-    let pl = c .before .before .before .before .before .before .before .before .before .before .before .before .before .before .read .ensures .found (not-false _ (c .before .before .before .before .before .before .before .before .before .before .before .before .if1 .left)) in
-    let h = c .before .before .before .before .before .before .before .before .before .put-head in
-    let w = c .before .before .before .before .before .last-word in
+    let x = c .before .before .before .before .before .before .before .before .before .before .before .before .before .before .before .before .before .before .before .args .id .now in
+    let o = c .before .before .before .before .before .before .before .before .before .before .before .before .before .before .before .before .before .before .before .args .out .now in
+    let m = c .before .before .before .before .before .before .before .before .before .before .before .before .before .before .before .read .result in
+    let t = c .before .before .before .before .before .before .before .before .before .before .before .before .before .before .before .read .last .1 .0 in
+    let pl = c .before .before .before .before .before .before .before .before .before .before .before .before .before .before .before .read .ensures .found (not-false _ (c .before .before .before .before .before .before .before .before .before .before .before .before .if1 .left)) in
+    let h = c .before .before .before .before .before .before .before .before .before .put-text in
+    let w = c .before .before .before .before .before .head-number in
     let q = c .before .before .put-pieces in
     let room : length x + m .dashes ≤ length o = c .before .before .before .before .before .before .before .before .before .before .before .if2 .left in
-    let r = q .ensures .0 ∙ ap (λ k. k + length (chunks x (take (m .n) (m .spans)))) (h .ensures .0) in
-    let hd = head-written x (m .at) (m .dashes) (m .stop) (m .n) (m .spans) pl o room (h .last .0) (h .result) (h .ensures .1) (h .ensures .0) in (
-      form-is x (m .at) (m .dashes) (m .stop) (m .n) (m .spans) pl o room (q .result) (w .result) r (w .ensures ∙ ap (λ l. word 8 l (length l - 8)) hd),
-      canon-written x (m .at) (m .dashes) (m .stop) (m .n) (m .spans) pl o room (h .last .0) (q .last .0) (h .ensures .1) (q .ensures .1 ∙ ap (λ k. overwrite (h .last .0) k (chunks x (take (m .n) (m .spans)))) (h .ensures .0))
-          ∙ ap (λ k. canonicalIn (length o) x ++ drop k o) (sym r),
-    )
+    let hd = head-written x (m .at) (m .dashes) (m .stop) (m .upto) (m .n) t pl o room (h .last .0) (h .ensures) in
+    (form-is x (m .at) (m .dashes) (m .stop) (m .upto) (m .n) t pl o room (w .result) (w .ensures ∙ ap headNumber hd), canon-written x (m .at) (m .dashes) (m .stop) (m .upto) (m .n) t pl o room (h .last .0) (q .last .0) (h .ensures) (q .ensures))
 
 pub canonical-spec : {M : Type 1} → statement M
 canonical-spec =
     tie.close
     (tie.spec
+    slice-aggregate-read
     read-requires
     no-form-requires
     returns
-    add-if2
+    add-length
     no-form-requires-2
     returns-2
-    put-head-requires
-    slice-reshare-prefix-last-word
-    slice-aggregate-last-word
-    last-word-requires
+    put-text-requires
+    add-head-number
+    slice-reshare-prefix-head-number
+    slice-aggregate-head-number
+    head-number-requires
+    add-put-pieces
+    slice-aggregate-put-pieces
     put-pieces-requires
     same-length
     returns-3)

@@ -2,7 +2,7 @@
 use native.Mathlib.Numerals.{add-one}
 use borrow.Author.Tests.{lt-ltb, le-ltb}
 use Rattle.canonical_form.specs.Scan.{part}
-use Rattle.canonical_form.specs.Spans.{nameOf}
+use Rattle.canonical_form.specs.Spans.{nameOf, atOf, signOf}
 use borrow.Author.Needs.{needs}
 use Rattle.canonical_form.proofs.features.name.Statement.{statement}
 use Rattle.canonical_form.proofs.features.name.Tie as tie
@@ -11,14 +11,14 @@ slice-aggregate-result : tie.Need-slice-aggregate-result
 slice-aggregate-result c = search needs
 
 returns : tie.Need-returns
-unfolding nameOf
+unfolding nameOf atOf signOf
 returns c = rw (le-ltb _ _ (c .before .if1 .taken))
 
 slice-aggregate-result-2 : tie.Need-slice-aggregate-result-2
 slice-aggregate-result-2 c = search needs
 
 returns-2 : tie.Need-returns-2
-unfolding nameOf
+unfolding nameOf atOf signOf
 returns-2 c = rw (lt-ltb _ _ (c .before .before .if1 .left), le-ltb _ _ (c .before .if2 .taken))
 
 add-result : tie.Need-add-result
@@ -34,7 +34,7 @@ part-result-end : tie.Need-part-result-end
 part-result-end c = search needs
 
 returns-3 : tie.Need-returns-3
-unfolding nameOf part
+unfolding nameOf atOf signOf part
 returns-3 c = rw (lt-ltb _ _ (c .before .before .if1 .left), lt-ltb _ _ (c .before .if2 .left), add-one)
 
 pub name-spec : {M : Type 1} → statement M

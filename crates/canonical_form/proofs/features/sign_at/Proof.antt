@@ -9,7 +9,8 @@ use Rattle.wire.specs.Lists.{every}
 use Rattle.entry_id.specs.Text.{splitOn}
 use Rattle.wire.proofs.Bools.{is-false, of-true}
 use Rattle.canonical_form.specs.Scan.{endsAt}
-use Rattle.canonical_form.specs.Spans.{pieceOk, signByte}
+use Rattle.canonical_form.specs.Spans.{pieceOk}
+use Rattle.entry_id.specs.Canonical.{signByte}
 use Rattle.canonical_form.proofs.PieceLaws.{piece-good, sign-inside}
 use native.Mathlib.Omega.{arith}
 use borrow.Author.Needs.{needs}

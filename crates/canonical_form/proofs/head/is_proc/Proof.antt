@@ -1,43 +1,49 @@
--- `entry_id::is_proc` meets its contract. Assumes nothing.
+-- `head::is_proc` meets its contract. Assumes nothing.
 use mathlib.Core.Path.{sym}
-use lib.Seq.{length-take-le}
-use Rattle.entry_id.specs.Meaning.{namesProcessor}
 use Rattle.canonical_form.proofs.RunLaws.{short-proc}
+use Rattle.canonical_form.proofs.ClassLaws.{proc-g, proc-s}
 use native.Mathlib.Omega.{arith}
 use borrow.Author.Needs.{needs}
 use Rattle.canonical_form.proofs.head.is_proc.Statement.{statement}
 use Rattle.canonical_form.proofs.head.is_proc.Tie as tie
 
 returns : tie.Need-returns
-returns c = sym (short-proc (c .before .before .args .f .now) (c .if1 .taken))
+returns c = sym (short-proc (c .before .args .f .now) (c .if1 .taken))
 
-slice-aggregate-p : tie.Need-slice-aggregate-p
-slice-aggregate-p c = sym (length-take-le 3 (c .before .before .before .args .f .now) (omega arith))
+shared-slice-read-if2 : tie.Need-shared-slice-read-if2
+shared-slice-read-if2 c = search needs
 
-slice-aggregate-same-bytes : tie.Need-slice-aggregate-same-bytes
-slice-aggregate-same-bytes c = search needs
+shared-slice-read-result : tie.Need-shared-slice-read-result
+shared-slice-read-result c = search needs
 
-same-bytes-requires : tie.Need-same-bytes-requires
-same-bytes-requires c κs = search needs
-
-slice-aggregate-same-bytes-2 : tie.Need-slice-aggregate-same-bytes-2
-slice-aggregate-same-bytes-2 c = search needs
-
-same-bytes-requires-2 : tie.Need-same-bytes-requires-2
-same-bytes-requires-2 c κs = search needs
+shared-slice-read-result-2 : tie.Need-shared-slice-read-result-2
+shared-slice-read-result-2 c = search needs
 
 returns-2 : tie.Need-returns-2
-unfolding namesProcessor
-returns-2 c = rw (c .before .before .same-bytes .ensures, c .same-bytes2 .ensures)
+returns-2 c = proc-g (c .before .before .before .before .before .args .f .now) (omega arith) (c .before .before .if2 .taken)
+
+shared-slice-read-result-3 : tie.Need-shared-slice-read-result-3
+shared-slice-read-result-3 c = search needs
+
+shared-slice-read-result-4 : tie.Need-shared-slice-read-result-4
+shared-slice-read-result-4 c = search needs
+
+shared-slice-read-result-5 : tie.Need-shared-slice-read-result-5
+shared-slice-read-result-5 c = search needs
+
+returns-3 : tie.Need-returns-3
+returns-3 c = proc-s (c .before .before .before .before .before .before .args .f .now) (omega arith) (c .before .before .before .if2 .left)
 
 pub is-proc-spec : {M : Type 1} → statement M
 is-proc-spec =
     tie.close
     (tie.spec
     returns
-    slice-aggregate-p
-    slice-aggregate-same-bytes
-    same-bytes-requires
-    slice-aggregate-same-bytes-2
-    same-bytes-requires-2
-    returns-2)
+    shared-slice-read-if2
+    shared-slice-read-result
+    shared-slice-read-result-2
+    returns-2
+    shared-slice-read-result-3
+    shared-slice-read-result-4
+    shared-slice-read-result-5
+    returns-3)

@@ -1,0 +1,11 @@
+use mathlib.Core.Path.{refl}
+use Rattle.entry_id.specs.Canonical.{signByte}
+use Rattle.canonical_form.proofs.compare.sign_byte.Statement.{statement}
+use Rattle.canonical_form.proofs.compare.sign_byte.Tie as tie
+
+returns : tie.Need-returns
+unfolding signByte
+returns c = refl
+
+pub sign-byte-spec : {M : Type 1} → statement M
+sign-byte-spec = tie.close (tie.spec returns)
