@@ -69,10 +69,6 @@ module _ (p : ℕ → Bool) (x : List ℕ) (a : ℕ) where
       rw (part-more x 0 a i h k)
       (every-append p (part x a i) (getD x i 0 ∷ []) t (and-t (p (getD x i 0)) true (of-true (p (getD x i 0)) e) tt))
 
-  -- two runs one after the other
-  pub run-join : (i r : ℕ) → a ≤ i → i ≤ r → T (every p (part x a i)) → T (every p (part x i r)) → T (every p (part x a r))
-  run-join i r h k s t = rw (part-split x a i r h k) (every-append p (part x a i) (part x i r) s t)
-
 -- ---- bytes
 
 -- a byte that is not 0 stands inside

@@ -22,15 +22,12 @@ inClass NotColon = notColon
 unfoldable pub part : {A : Type 0} → List A → ℕ → ℕ → List A
 part x a e = take (e - a) (drop a x)
 
--- from a up to r every byte passes, and the next one, if it stands before e, does not
-pub record RunTo (p : ℕ → Bool) (x : List ℕ) (a e r : ℕ) : Type 0 where
+-- from a up to r every byte passes, and the next one, if there is one, does not
+pub record Run (p : ℕ → Bool) (x : List ℕ) (a r : ℕ) : Type 0 where
   pub low : a ≤ r
-  pub high : r ≤ e
+  pub high : r ≤ length x
   pub passed : T (every p (part x a r))
-  pub stop : r < e → p (getD x r 0) ≡ false
-
-abbrev pub Run : (ℕ → Bool) → List ℕ → ℕ → ℕ → Type 0
-Run p x a r = RunTo p x a (length x) r
+  pub stop : r < length x → p (getD x r 0) ≡ false
 
 -- the head of the text ends at e: the text does, or a ':' stands there
 unfoldable pub endsAt : List ℕ → ℕ → Bool

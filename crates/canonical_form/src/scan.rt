@@ -4,7 +4,7 @@ ghost use Prim.Native.Nat.{_<_, _≤_};
 ghost use mathlib.Core.Bool.{true};
 ghost use lib.ListN.{length, getD};
 ghost use Rattle.entry_id.specs.Meaning.{fieldByte, nameByte};
-ghost use Rattle.canonical_form.specs.Scan.{Run, RunTo, inClass, endsAt};
+ghost use Rattle.canonical_form.specs.Scan.{Run, inClass, endsAt};
 ghost use Rattle.entry_id.specs.Text.{notColon};
 
 // Most bytes of an ID are small letters, and a byte below '0' ends most runs: these are asked first.
@@ -53,13 +53,13 @@ fn in_class(class: Class, b: u8) -> bool
     }
 }
 
-// The end of the run of bytes of the class that starts at from, up to `to`.
-fn run_to(x: &[u8], from: usize, to: usize, class: Class) -> usize
-    requires { ⌜ (from ≤ to) × (to ≤ length (now x)) ⌝ }
-    ensures { λ r. ⌜ RunTo (inClass class) (now (x .entry)) from to r ⌝ }
+// The end of the run of bytes of the class that starts at from.
+fn run_end(x: &[u8], from: usize, class: Class) -> usize
+    requires { ⌜ from ≤ length (now x) ⌝ }
+    ensures { λ r. ⌜ Run (inClass class) (now (x .entry)) from r ⌝ }
 {
     let mut i = from;
-    while i < to {
+    while i < x.len() {
         if !in_class(class, x[i]) {
             return i;
         }
@@ -68,27 +68,18 @@ fn run_to(x: &[u8], from: usize, to: usize, class: Class) -> usize
     i
 }
 
-// Blocks of eight, whose loop is unrolled, and then the rest.
 pub(crate) fn field_end(x: &[u8], from: usize) -> usize
     requires { ⌜ from ≤ length (now x) ⌝ }
     ensures { λ r. ⌜ Run fieldByte (now (x .entry)) from r ⌝ }
 {
-    let mut i = from;
-    while 8 <= x.len() - i {
-        let r = run_to(x, i, i + 8, Class::Field);
-        if r < i + 8 {
-            return r;
-        }
-        i = r;
-    }
-    run_to(x, i, x.len(), Class::Field)
+    run_end(x, from, Class::Field)
 }
 
 pub(crate) fn name_end(x: &[u8], from: usize) -> usize
     requires { ⌜ from ≤ length (now x) ⌝ }
     ensures { λ r. ⌜ Run nameByte (now (x .entry)) from r ⌝ }
 {
-    run_to(x, from, x.len(), Class::Name)
+    run_end(x, from, Class::Name)
 }
 
 // The first ':' from `from` on, or the end.
@@ -96,7 +87,7 @@ pub(crate) fn colon(x: &[u8], from: usize) -> usize
     requires { ⌜ from ≤ length (now x) ⌝ }
     ensures { λ r. ⌜ Run notColon (now (x .entry)) from r ⌝ }
 {
-    run_to(x, from, x.len(), Class::NotColon)
+    run_end(x, from, Class::NotColon)
 }
 
 // The byte at i, or 0 past the end.

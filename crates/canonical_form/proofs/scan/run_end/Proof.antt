@@ -1,5 +1,6 @@
--- `scan::run_to` meets its contract. The loop's invariant: every byte so far passes. Assumes nothing.
+-- `entry_id::run_end` meets its contract. The loop's invariant: every byte so far passes. Assumes nothing.
 use Prim.Native.Nat.{_≤_, _-_}
+use lib.ListN.{length}
 use lib.Dec.{T}
 use borrow.Author.Tests.{not-true, not-false}
 use mathlib.Core.Path.{sym, _∙_}
@@ -8,14 +9,14 @@ use Rattle.canonical_form.specs.Scan.{part, inClass}
 use Rattle.canonical_form.proofs.RunLaws.{run-none, run-more}
 use native.Mathlib.Omega.{arith}
 use borrow.Author.Needs.{needs}
-use Rattle.canonical_form.proofs.scan.run_to.Statement.{statement}
-use Rattle.canonical_form.proofs.scan.run_to.Tie as tie
+use Rattle.canonical_form.proofs.scan.run_end.Statement.{statement}
+use Rattle.canonical_form.proofs.scan.run_end.Tie as tie
 
 abbrev Inv-loop : tie.InvT-loop
-Inv-loop x from to class i₀ i = (from ≤ i) × ((i ≤ to) × T (every (inClass class) (part x from i)))
+Inv-loop x from class i₀ i = (from ≤ i) × ((i ≤ length x) × T (every (inClass class) (part x from i)))
 
 abbrev μ-loop : tie.MeasureT-loop
-μ-loop x from to class i₀ i = to - i
+μ-loop x from class i₀ i = length x - i
 
 loop-holds : tie.Need-loop-holds Inv-loop μ-loop
 loop-holds c = (omega arith, (omega arith, run-none (inClass (c .before .args .class)) (c .before .args .x .now) (c .before .args .from)))
@@ -53,8 +54,8 @@ returns-2 c =
     let l = c .before .loop in
     record { low = omega arith; high = omega arith; passed = l .inv .1 .1; stop = λ h. absurd (omega arith) }
 
-pub run-to-spec : {M : Type 1} → statement M
-run-to-spec =
+pub run-end-spec : {M : Type 1} → statement M
+run-end-spec =
     tie.close
     (tie.spec
     Inv-loop
