@@ -10,4 +10,5 @@ pub mod ReadBack
 pub mod PackLaws
 pub mod SameLaws
 pub mod NormalLaws
+pub mod WriterLaws
 pub mod Demand

@@ -16,7 +16,7 @@ use Rattle.bundle.specs.Entry.{Entry, entries}
 use Rattle.bundle.specs.Pick.{pick}
 use Rattle.bundle.specs.Accepted.{Accepted}
 use Rattle.bundle.specs.Layout.{entrySize, packedLength, encode, Writable, ReadsBack}
-use Rattle.bundle.specs.Normal.{byId, roomStop, answer, over, output, normal, normalLength, normaliseStop, normalise, normalised}
+use Rattle.bundle.specs.Normal.{byId, roomStop, answer, over, output, normal, normalLength, normaliseStop, normalise, normalised, RefusalWritesNothing}
 use Rattle.bundle.specs.Demand.{SamePick, Writes, Kept}
 use Rattle.bundle.proofs.AcceptLaws.{accepted-go}
 use Rattle.bundle.proofs.EntryLaws.{entries-length, entries-writable}
@@ -127,3 +127,7 @@ module _ (R : IdRules) (L : Lawful R) where
   pub normal-holds : (a b : List ℕ) → Accepted R a → Accepted R b → length (normal R a) ≤ limit → length (normal R b) ≤ limit → normal R a ≡ normal R b → Holds R a b
   normal-holds a b p q wa wb e =
       same-sort byId (entries R a) (entries R b) (sym (normal-reads-back a p wa .entries-back) ∙ ap (entries R) e ∙ normal-reads-back b q wb .entries-back)
+
+pub refusal-writes-nothing : (R : IdRules) → RefusalWritesNothing R
+unfolding normalise normalised answer output
+refusal-writes-nothing R s out k e = rw e

@@ -8,4 +8,5 @@ pub mod Theorems
 pub mod Records
 pub mod Layout
 pub mod Normal
+pub mod Writer
 pub mod Demand

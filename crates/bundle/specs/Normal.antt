@@ -1,5 +1,6 @@
--- The normal form of a bundle, and what normalising gives back. Definitions only.
+-- The normal form of a bundle, and what normalising gives back. Definitions, and the statement that a refusal writes nothing.
 use Prim.Native.Nat.{ℕ, zero, suc}
+use mathlib.Core.Path.{_≡_}
 use mathlib.Core.List.{List, _++_}
 use lib.Dec.{ltb}
 use lib.ListN.{length, drop}
@@ -54,3 +55,7 @@ module _ (R : IdRules) where
   -- the lent output afterwards
   unfoldable pub normalised : List ℕ → List ℕ → List ℕ
   normalised s out = output (normaliseStop s (length out)) (normal s) out
+
+-- "A refusal .. writes no output": not one byte of the lent output changes
+abbrev pub RefusalWritesNothing : IdRules → Type 0
+RefusalWritesNothing R = (s out : List ℕ) (k : ℕ) → normalise R s (length out) .number ≡ suc k → normalised R s out ≡ out

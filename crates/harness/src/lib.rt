@@ -9,7 +9,7 @@ ghost use mathlib.Core.Path.{_≡_};
 ghost use Prim.Native.Nat.{_%_};
 ghost use lib.ListN.{length};
 ghost use Rattle.entry_id.specs.Rules.{idRules};
-ghost use Rattle.normal_form.specs.Writer.{write, writtenTo};
+ghost use Rattle.bundle.specs.Writer.{write, writtenTo};
 ghost use Rattle.offload_binaries.specs.Reader.{next};
 ghost use Rattle.offload_binary_writer.specs.Writer.{write as writeBinary};
 ghost use Rattle.harness.specs.Fields.{field, bundleField, binaryField, tags, stepNumbers};

@@ -19,7 +19,7 @@ use Rattle.bundle.specs.declared.EntryRecord.{EntryRecord}
 use Rattle.bundle.proofs.ListLaws.{tab-same}
 use Rattle.bundle.proofs.AcceptLaws.{rowsStop-same}
 use Rattle.bundle_reader.proofs.RecordLaws.{stop-many}
-use Rattle.normal_form.specs.Writer.{entriesGiven, writeStop, write, writtenTo}
+use Rattle.bundle.specs.Writer.{entriesGiven, writeStop, write, writtenTo}
 use Rattle.normal_form.specs.Code.{gathered}
 use Rattle.normal_form.proofs.Gathered.{gathered-at}
 

@@ -1,43 +1,24 @@
--- The bundle writer over records that were examined, and that what it writes reads back. Assumes nothing.
+-- The bundle writer over records that were examined. Assumes nothing.
 use Prim.Native.Nat.{ℕ, _≤_, _<_}
 use mathlib.Core.Path.{_≡_, refl, sym, ap, ap₂, _∙_}
 use mathlib.Core.List.{List}
 use lib.ListN.{length, getD}
-use borrow.Author.Tests.{ltb-false}
-use Rattle.wire.specs.Stop.{go, _⨾_}
-use Rattle.wire.proofs.StopLaws.{⨾-next, ⨾-left, ⨾-right, stopIf-no}
+use Rattle.wire.proofs.StopLaws.{⨾-next}
 use Rattle.entry_id.specs.IdRules.{IdRules, Lawful}
-use Rattle.bundle.specs.Check.{limit, unrefused}
-use Rattle.bundle.specs.Accepted.{Sound}
-use Rattle.bundle.specs.Entry.{Entry, noEntry}
+use Rattle.bundle.specs.Entry.{Entry}
 use Rattle.bundle.specs.Records.{rowsOf, recordsStop}
 use Rattle.bundle_reader.specs.Slots.{Judged}
-use Rattle.bundle.specs.Layout.{packedLength, encode, Writable, ReadsBack}
+use Rattle.bundle.specs.Layout.{packedLength, encode}
 use Rattle.bundle.specs.Normal.{roomStop, answer, output}
+use Rattle.bundle.specs.Writer.{entriesGiven, writeStop, write, writtenTo}
 use Rattle.bundle.specs.declared.EntryRecord.{EntryRecord}
 use Rattle.bundle.specs.declared.Written.{Written}
-use Rattle.bundle.proofs.AcceptLaws.{sound}
-use Rattle.bundle.proofs.EntryLaws.{entries-at, entries-writable}
-use Rattle.bundle.proofs.PackLaws.{length-encode, encode-reads-back}
-use Rattle.bundle.proofs.NormalLaws.{roomStop-go}
-use Rattle.normal_form.specs.Writer.{entriesGiven, writeStop, write, writtenTo, WriterReadsBack, WritesRead}
+use Rattle.bundle.proofs.WriterLaws.{records-few, records-sound}
 use Rattle.normal_form.specs.Code.{inOrder, Filled, Placed}
 use Rattle.normal_form.proofs.GivenLaws.{filled, given-is, given-entries, given-placed}
 use Rattle.normal_form.proofs.NormaliseLaws.{answer-stop, refused-out, first-stops}
 
 module _ (R : IdRules) (n : ℕ) (records : List EntryRecord) (ids images : List ℕ) where
-  -- records that 3 to 8 do not refuse
-  module _ (e : recordsStop R ids (length images) n records .number ≡ 0) where
-    pub records-few : n ≤ 64
-    unfolding recordsStop
-    records-few = ltb-false _ _ (stopIf-no 2 _ (⨾-left _ _ e))
-
-    pub records-sound : Sound R 0 (length images) n (rowsOf ids records)
-    unfolding recordsStop
-    records-sound = sound R 0 (length images) n (rowsOf ids records) (⨾-right _ _ (⨾-right _ _ e))
-
-  -- ---- the call
-
   module _ (L : Lawful R) (texts lens : List ℕ) (number place : ℕ) (j : Judged R (recordsStop R ids (length images) n records) (rowsOf ids records) n texts lens number place) where
     number-is : recordsStop R ids (length images) n records .number ≡ number
     number-is = ap (λ t. t .number) (sym (j .stop-is))
@@ -62,11 +43,11 @@ module _ (R : IdRules) (n : ℕ) (records : List EntryRecord) (ids images : List
     -- none of them
     module _ (z : number ≡ 0) where
       pub few : n ≤ 64
-      few = records-few (number-is ∙ z)
+      few = records-few R n records ids images (number-is ∙ z)
 
       module _ (room : length lens ≡ 64) where
         records-filled : Filled images records texts lens n
-        records-filled = filled R L images ids records (rowsOf ids records) texts lens n few room (λ k h. refl) (j .held z) (λ k h. records-sound (number-is ∙ z) .in-range k h .within)
+        records-filled = filled R L images ids records (rowsOf ids records) texts lens n few room (λ k h. refl) (j .held z) (λ k h. records-sound R n records ids images (number-is ∙ z) .in-range k h .within)
 
         module _ (order : List ℕ) (o : (k : ℕ) → k < 64 → getD order k 0 ≡ k) where
           pub records-placed : Placed images records texts lens n order
@@ -78,7 +59,7 @@ module _ (R : IdRules) (n : ℕ) (records : List EntryRecord) (ids images : List
           entries-are : es ≡ entriesGiven R n records ids images
           entries-are =
               given-entries images records texts lens n records-filled order o
-              ∙ given-is R L images ids records (rowsOf ids records) texts lens n few room (λ k h. refl) (j .held z) (λ k h. records-sound (number-is ∙ z) .in-range k h .within)
+              ∙ given-is R L images ids records (rowsOf ids records) texts lens n few room (λ k h. refl) (j .held z) (λ k h. records-sound R n records ids images (number-is ∙ z) .in-range k h .within)
 
           goes : (room : ℕ) → roomStop (packedLength es) room ≡ writeStop R n records ids images room
           unfolding writeStop
@@ -93,51 +74,3 @@ module _ (R : IdRules) (n : ℕ) (records : List EntryRecord) (ids images : List
           pub accepted-bytes : (out : List ℕ) → output (roomStop (packedLength es) (length out)) (encode es) out ≡ writtenTo R n records ids images out
           unfolding writtenTo
           accepted-bytes out = ap₂ (λ t b. output t b out) (goes (length out)) (ap encode entries-are)
-
-  -- ---- what was written
-
-  module _ (L : Lawful R) (out : List ℕ) (e : write R n records ids images (length out) .number ≡ 0) where
-    abbrev gs : List Entry
-    gs = entriesGiven R n records ids images
-
-    stopless : writeStop R n records ids images (length out) .number ≡ 0
-    unfolding write answer
-    stopless = e
-
-    records-fine : recordsStop R ids (length images) n records .number ≡ 0
-    unfolding writeStop
-    records-fine = ⨾-left _ _ stopless
-
-    room-fine : roomStop (packedLength gs) (length out) .number ≡ 0
-    unfolding writeStop
-    room-fine = ⨾-right _ _ stopless
-
-    within : packedLength gs ≤ limit
-    unfolding roomStop
-    within = ltb-false _ _ (stopIf-no 10 _ (⨾-left _ _ room-fine))
-
-    enough : packedLength gs ≤ length out
-    unfolding roomStop
-    enough = ltb-false _ _ (stopIf-no 11 _ (⨾-right _ _ room-fine))
-
-    writable : Writable R gs
-    writable = entries-writable R images n (rowsOf ids records) L (records-few records-fine) (records-sound records-fine .meant)
-
-    back : ReadsBack R gs (encode gs)
-    back = encode-reads-back R L gs writable within
-
-    goes-all : writeStop R n records ids images (length out) ≡ go
-    unfolding writeStop
-    goes-all = ⨾-next (recordsStop R ids (length images) n records) _ records-fine ∙ roomStop-go (packedLength gs) (length out) within enough
-
-    pub writer-reads-back : WriterReadsBack R n records ids images out
-    unfolding write writtenTo answer unrefused output
-    writer-reads-back = record {
-      written = rw goes-all;
-      returned = rw (goes-all, length-encode gs);
-      reads-back = back;
-      each = λ i h. ap (λ es. getD es i noEntry) (back .entries-back) ∙ entries-at R images n (rowsOf ids records) i h;
-    }
-
-pub writes-read : (R : IdRules) → Lawful R → WritesRead R
-writes-read R L n records ids images out e = writer-reads-back R n records ids images L out e

@@ -12,7 +12,7 @@ ghost use Rattle.bundle.specs.Records.{noRecord, recordAt};
 ghost use Rattle.bundle_reader.specs.Examined.{text};
 ghost use Rattle.bundle.specs.Layout.{rowBytes, table, images, packedEnd, packedLength, encode};
 ghost use Rattle.bundle.specs.Normal.{roomStop, answer, over, output, normalise, normalised};
-ghost use Rattle.normal_form.specs.Writer.{write, writtenTo};
+ghost use Rattle.bundle.specs.Writer.{write, writtenTo};
 ghost use Rattle.normal_form.specs.Code.{inOrder, upTo, Ordered, Placed, Measured, sizeOf, idOf, rowAfter, gathered};
 use bundle::EntryRecord;
 use bundle::Written;

@@ -38,7 +38,7 @@ use denote.Triple.Walked.{says, Stays, stay-none, stay-none-slice, gave-slice, w
 use denote.Exit.{yes}
 use denote.Triple.Clauses.{ensured, Lasts, lasts}
 use Rattle.entry_id.specs.Rules.{idRules}
-use Rattle.normal_form.specs.Writer.{write, writtenTo}
+use Rattle.bundle.specs.Writer.{write, writtenTo}
 use Rattle.harness.specs.Fields.{bundleField}
 use Rattle.bundle.specs.declared.EntryRecord.{EntryRecord}
 use Rattle.bundle.specs.declared.Written.{Written}

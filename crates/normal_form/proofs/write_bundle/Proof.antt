@@ -41,7 +41,7 @@ use denote.Triple.Walked.{says, Stays, stay-none-slice, gave-slice, walkOf, goes
 use denote.Exit.{yes}
 use denote.Triple.Clauses.{ensured, Lasts, lasts}
 use Rattle.entry_id.specs.Rules.{idRules}
-use Rattle.normal_form.specs.Writer.{write, writtenTo}
+use Rattle.bundle.specs.Writer.{write, writtenTo}
 use Rattle.normal_form.specs.Code.{gathered}
 use Rattle.normal_form.proofs.GatherLaws.{write-gathered, written-gathered}
 use Rattle.bundle.specs.declared.EntryRecord.{EntryRecord}
