@@ -36,7 +36,7 @@ library: compiler
 	mkdir -p target
 	$(call archive,offload)
 
-archive = rt staticlib $(1) >target/staticlib.out || { cat target/staticlib.out; exit 1; }
+archive = @echo 'The library $(1): proved where it is not yet, and compiled (some minutes the first time; target/staticlib.out)'; rt staticlib $(1) >target/staticlib.out 2>&1 || { cat target/staticlib.out; exit 1; }
 
 # The reader and the writers as C calls, which the header has not.
 harness: library

@@ -1,7 +1,8 @@
-//! Compares the library with the model: `compare [--seed N] [--cases N] [--first N] [--dump FOLDER] [--aims]`.
+//! Compares the library with the model: `compare [--family N] [--seed N] [--cases N] [--first N] [--dump FOLDER] [--aims]`.
 //!
 //! Ends with 1 where an answer differs, where a byte outside a lent slice is touched, or where a number never came. The case is then left
-//! in the folder (`target/second-case` if none is named), and `--seed S --first N --cases 1` runs it again.
+//! in the folder (`target/second-case` if none is named), and `--family F --seed S --first N --cases 1` runs it again.
+//! Where no family is named, each runs in a process of its own, all at once.
 
 mod linked;
 
@@ -12,7 +13,7 @@ use second::families::{Difference, Family, Report};
 use second::gen::random::Random;
 use second::gen::{binary_contents, records};
 use std::path::{Path, PathBuf};
-use std::process::exit;
+use std::process::{exit, Child, Command, Stdio};
 use std::sync::atomic::{AtomicPtr, Ordering::Relaxed};
 use std::time::Instant;
 
@@ -22,6 +23,7 @@ const NAMES: [&str; 20] = [
 ];
 
 struct Options {
+    family: Option<usize>,
     seed: u64,
     first: u64,
     cases: u64,
@@ -31,25 +33,52 @@ struct Options {
 
 fn main() {
     let options: &'static Options = Box::leak(Box::new(read_options()));
-    catch_faults();
-    println!("seed {}", options.seed);
-    let families: Vec<Box<dyn Family>> = vec![
+    match options.family {
+        Some(number) => {
+            catch_faults();
+            run(families().into_iter().nth(number).unwrap_or_else(|| usage()), options);
+        }
+        None => run_all(),
+    }
+}
+
+fn families() -> Vec<Box<dyn Family>> {
+    vec![
         Box::new(Bundles::new(linked::BUNDLES)),
         Box::new(Writers::<records::Case>::new(linked::write_bundle)),
         Box::new(Binaries::new(linked::next)),
         Box::new(Writers::<binary_contents::Case>::new(linked::write_binary)),
-    ];
-    for family in families {
-        run(family, options);
+    ]
+}
+
+/// Runs each family in a process of its own, and prints what they say one after another.
+fn run_all() {
+    let program = std::env::current_exe().expect("the program's own path");
+    let words: Vec<String> = std::env::args().skip(1).collect();
+    let start = |family: usize| {
+        let mut command = Command::new(&program);
+        command.args(&words).args(["--family", &family.to_string()]).stdout(Stdio::piped());
+        command.spawn().expect("a process for each family")
+    };
+    let children: Vec<Child> = (0..families().len()).map(start).collect();
+    let mut failed = false;
+    for child in children {
+        let ended = child.wait_with_output().expect("a family's process ends");
+        print!("{}", String::from_utf8_lossy(&ended.stdout));
+        failed |= !ended.status.success();
+    }
+    if failed {
+        exit(1);
     }
 }
 
 fn read_options() -> Options {
     let dump = PathBuf::from("target/second-case");
-    let mut options = Options { seed: 1, first: 0, cases: 200_000, dump, aims: false };
+    let mut options = Options { family: None, seed: 1, first: 0, cases: 200_000, dump, aims: false };
     let mut words = std::env::args().skip(1);
     while let Some(word) = words.next() {
         match word.as_str() {
+            "--family" => options.family = Some(number(words.next()) as usize),
             "--seed" => options.seed = number(words.next()),
             "--first" => options.first = number(words.next()),
             "--cases" => options.cases = number(words.next()),
@@ -66,7 +95,7 @@ fn number(word: Option<String>) -> u64 {
 }
 
 fn usage() -> ! {
-    eprintln!("compare [--seed N] [--cases N] [--first N] [--dump FOLDER] [--aims]");
+    eprintln!("compare [--family N] [--seed N] [--cases N] [--first N] [--dump FOLDER] [--aims]");
     exit(2)
 }
 
@@ -92,8 +121,9 @@ fn run(family: Box<dyn Family>, options: &'static Options) {
     }
     let family = running.family;
     println!(
-        "{}: {} generated cases, {fixed} examples and real files, {:.1?}",
+        "{}: seed {}, {} generated cases, {fixed} examples and real files, {:.1?}",
         family.name(),
+        options.seed,
         options.cases,
         start.elapsed()
     );
@@ -152,7 +182,7 @@ fn fail(running: &Running) -> ! {
     let Running { options, family, case } = running;
     match case {
         None => println!("  an example or a real file: these always run"),
-        Some(case) => println!("  run again: --seed {} --first {case} --cases 1", options.seed),
+        Some(case) => println!("  run again: --family {} --seed {} --first {case} --cases 1", options.family.unwrap_or(0), options.seed),
     }
     for (name, bytes) in family.files() {
         let file = dump(&options.dump, &format!("{}-{name}", family.name().replace(' ', "-")), &bytes);
