@@ -8,6 +8,7 @@ use lib.Dec.{ltb}
 use lib.ListN.{length, take}
 use mathlib.Core.List.{List}
 use borrow.Author.Tests.{ltb-false, leb-true, le-ltb, le-leb}
+use Rattle.wire.specs.Limit.{limit}
 use Rattle.wire.specs.Bytes.{same}
 use Rattle.wire.specs.First.{first, anyBelow}
 use Rattle.wire.specs.Stop.{Stop, stop, _⨾_, stopWhen, stopIf, stopAt}
@@ -15,7 +16,7 @@ use Rattle.wire.proofs.Bools.{byBool, and-both, both-and, or-neither, neither-o
 use Rattle.wire.proofs.StopLaws.{⨾-next, ⨾-stop}
 use Rattle.entry_id.specs.IdRules.{IdRules}
 use Rattle.bundle.specs.Table.{magic, count}
-use Rattle.bundle.specs.Check.{limit, badRow, outside, unrefused, headStop, tableStop, rowsStop, bundleStop}
+use Rattle.bundle.specs.Check.{badRow, outside, unrefused, headStop, tableStop, rowsStop, bundleStop}
 use Rattle.bundle.specs.Accepted.{RowFits, Inside}
 
 pub unrefused-go : (t : Stop) (v : ℕ) → t .number ≡ 0 → unrefused t v ≡ v

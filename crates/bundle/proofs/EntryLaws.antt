@@ -17,7 +17,7 @@ use Rattle.bundle.specs.Check.{badId, meanSame, mix}
 use Rattle.bundle.specs.Entry.{Entry, noEntry, imageOf, entryOf, entriesOf}
 use Rattle.bundle.specs.Accepted.{Meant}
 use Rattle.bundle.specs.Layout.{Writable}
-use Rattle.bundle.proofs.ListLaws.{length-tab, getD-tab}
+use Rattle.wire.proofs.TabLaws.{length-tab, getD-tab}
 
 pub length-imageOf : (s : List ℕ) (r : Row) → r .offset + r .size ≤ length s → length (imageOf s r) ≡ r .size
 unfolding imageOf

@@ -1,4 +1,3 @@
-pub mod ListLaws
 pub mod CheckLaws
 pub mod AcceptLaws
 pub mod EntryLaws

@@ -5,13 +5,14 @@ use mathlib.Core.Path.{_≡_, sym, ap, _∙_}
 use mathlib.Core.List.{List}
 use lib.ListN.{length}
 use borrow.Author.Tests.{le-ltb}
+use Rattle.wire.specs.Limit.{limit}
 use Rattle.wire.specs.Order.{sortBy}
 use Rattle.wire.specs.Stop.{Stop, go, _⨾_}
 use Rattle.wire.proofs.StopLaws.{⨾-both, stopIf-go}
 use Rattle.wire.proofs.SortLaws.{sort-in, sort-out, sort-length, sort-total, sort-distinct, sort-again, sort-same, same-sort}
 use Rattle.entry_id.specs.IdRules.{IdRules, Lawful}
 use Rattle.bundle.specs.Table.{count, row}
-use Rattle.bundle.specs.Check.{limit, unrefused, check}
+use Rattle.bundle.specs.Check.{unrefused, check}
 use Rattle.bundle.specs.Entry.{Entry, entries}
 use Rattle.bundle.specs.Pick.{pick}
 use Rattle.bundle.specs.Accepted.{Accepted}

@@ -8,7 +8,7 @@ use lib.ListN.{length, getD, take, drop, length-append}
 use lib.Seq.{take-at, drop-at, split-at}
 use Rattle.wire.specs.Lists.{total}
 use Rattle.entry_id.specs.IdRules.{IdRules, Lawful}
-use Rattle.bundle.specs.Check.{limit}
+use Rattle.wire.specs.Limit.{limit}
 use Rattle.bundle.specs.Entry.{Entry, noEntry}
 use Rattle.bundle.specs.Layout.{packedEnd, packedLength, images, packed, encode, noRow, Layout, Writable, ReadsBack}
 use Rattle.bundle.proofs.ReadBack.{length-layout, layout-reads-back}

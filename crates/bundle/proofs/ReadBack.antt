@@ -6,6 +6,7 @@ use mathlib.Core.Bool.{Bool, false}
 use mathlib.Core.List.{List, [], _∷_, _++_, append-assoc, List·Memᴰ}
 use lib.ListN.{length, getD, take, length-append}
 use lib.Seq.{ext-getD, drop-append-add, take-at}
+use Rattle.wire.specs.Limit.{limit}
 use Rattle.wire.specs.Bytes.{empty}
 use Rattle.wire.specs.Lists.{total}
 use Rattle.wire.specs.Word.{bytesOf, word}
@@ -14,7 +15,7 @@ use Rattle.wire.proofs.ListLaws.{total-same, at-member}
 use Rattle.wire.proofs.SortLaws.{distinct-at}
 use Rattle.entry_id.specs.IdRules.{IdRules, Lawful}
 use Rattle.bundle.specs.Table.{Row, magic, count, rowStart, row}
-use Rattle.bundle.specs.Check.{limit, badId, meanSame, mix}
+use Rattle.bundle.specs.Check.{badId, meanSame, mix}
 use Rattle.bundle.specs.Entry.{Entry, noEntry, imageOf, entryOf, entries}
 use Rattle.bundle.specs.Accepted.{RowFits, Inside, Framed, Accepted}
 use Rattle.bundle.specs.Layout.{rowSize, packedEnd, table, bundle, noRow, Layout, Writable, LayoutReadsBack}

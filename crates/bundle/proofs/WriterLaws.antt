@@ -4,10 +4,11 @@ use mathlib.Core.Path.{_≡_, ap, _∙_}
 use mathlib.Core.List.{List}
 use lib.ListN.{length, getD}
 use borrow.Author.Tests.{ltb-false}
+use Rattle.wire.specs.Limit.{limit}
 use Rattle.wire.specs.Stop.{go, _⨾_}
 use Rattle.wire.proofs.StopLaws.{⨾-next, ⨾-left, ⨾-right, stopIf-no}
 use Rattle.entry_id.specs.IdRules.{IdRules, Lawful}
-use Rattle.bundle.specs.Check.{limit, unrefused}
+use Rattle.bundle.specs.Check.{unrefused}
 use Rattle.bundle.specs.Accepted.{Sound}
 use Rattle.bundle.specs.Entry.{Entry, noEntry}
 use Rattle.bundle.specs.Records.{rowsOf, recordsStop}

@@ -4,10 +4,11 @@ use mathlib.Core.Path.{_≡_}
 use mathlib.Core.Bool.{false}
 use mathlib.Core.List.{List}
 use lib.ListN.{length, take}
+use Rattle.wire.specs.Limit.{limit}
 use Rattle.wire.specs.Word.{word}
 use Rattle.entry_id.specs.IdRules.{IdRules}
 use Rattle.bundle.specs.Table.{Row, magic, count, rowStart, row, tableEnd}
-use Rattle.bundle.specs.Check.{limit, badId, meanSame, mix}
+use Rattle.bundle.specs.Check.{badId, meanSame, mix}
 
 -- the row that starts at `from` is wholly inside, with an ID of 1 to 256 bytes
 pub record RowFits (s : List ℕ) (from : ℕ) : Type 0 where

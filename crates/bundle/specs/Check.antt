@@ -5,16 +5,13 @@ use mathlib.Core.Bool.{Bool, not, _&&_, _||_}
 use mathlib.Core.List.{List}
 use lib.ListN.{length, take}
 use lib.Dec.{leb, ltb}
+use Rattle.wire.specs.Limit.{limit}
 use Rattle.wire.specs.Bytes.{same, empty}
 use Rattle.wire.specs.Word.{word}
 use Rattle.wire.specs.Stop.{Stop, _⨾_, stopIf, stopAt, earlier}
 use Rattle.entry_id.specs.IdRules.{IdRules}
 use Rattle.bundle.specs.Table.{Row, magic, count, rowStart, row, tableEnd}
 use Rattle.bundle.specs.declared.Checked.{Checked}
-
--- "Container or output: at most 1,073,741,824 bytes."
-abbrev pub limit : ℕ
-limit = 1073741824
 
 -- TABLE of the row that starts at `from`: "an entry's 24 bytes or its ID not wholly inside; ID length 0 or above 256"
 unfoldable pub badRow : List ℕ → ℕ → Bool

@@ -5,11 +5,12 @@ use mathlib.Core.Path.{_≡_}
 use mathlib.Core.Logic.{_↔_}
 use mathlib.Core.List.{List, map, List·Memᴰ}
 use lib.ListN.{length, take, drop}
+use Rattle.wire.specs.Limit.{limit}
 use Rattle.entry_id.specs.IdRules.{IdRules}
 use Rattle.entry_id.specs.Meaning.{Feature, piecesOf, feature, meaning}
 use Rattle.entry_id.specs.Rules.{idRules}
 use Rattle.bundle.specs.Table.{count, row}
-use Rattle.bundle.specs.Check.{limit, check}
+use Rattle.bundle.specs.Check.{check}
 use Rattle.bundle.specs.Entry.{imageOf}
 use Rattle.bundle.specs.Pick.{pick}
 use Rattle.bundle.specs.Normal.{over, normal, normalise, normalised}

@@ -3,7 +3,7 @@ use Prim.Native.Nat.{ℕ}
 use mathlib.Core.List.{List, []}
 use lib.ListN.{take, drop}
 use Rattle.entry_id.specs.IdRules.{IdRules}
-use Rattle.bundle.specs.Lists.{tab}
+use Rattle.wire.specs.Lists.{tab}
 use Rattle.bundle.specs.Table.{Row, count, row}
 
 -- an entry: its canonical ID and its image's bytes

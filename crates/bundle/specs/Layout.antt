@@ -6,13 +6,14 @@ use mathlib.Core.Bool.{false}
 use mathlib.Core.List.{List, [], _∷_, _++_, List·Memᴰ}
 use lib.Dec.{T}
 use lib.ListN.{length, getD, take, drop}
+use Rattle.wire.specs.Limit.{limit}
 use Rattle.wire.specs.Bytes.{empty}
 use Rattle.wire.specs.Lists.{total}
 use Rattle.wire.specs.Order.{distinctBy}
 use Rattle.wire.specs.Word.{bytesOf}
 use Rattle.entry_id.specs.IdRules.{IdRules}
 use Rattle.bundle.specs.Table.{Row, magic}
-use Rattle.bundle.specs.Check.{limit, check}
+use Rattle.bundle.specs.Check.{check}
 use Rattle.bundle.specs.Entry.{Entry, noEntry, entries}
 use Rattle.bundle.specs.Accepted.{Accepted}
 

@@ -4,10 +4,11 @@ use mathlib.Core.Path.{_≡_}
 use mathlib.Core.List.{List, _++_}
 use lib.Dec.{ltb}
 use lib.ListN.{length, drop}
+use Rattle.wire.specs.Limit.{limit}
 use Rattle.wire.specs.Order.{sortBy}
 use Rattle.wire.specs.Stop.{Stop, _⨾_, stopIf}
 use Rattle.entry_id.specs.IdRules.{IdRules}
-use Rattle.bundle.specs.Check.{limit, unrefused, bundleStop}
+use Rattle.bundle.specs.Check.{unrefused, bundleStop}
 use Rattle.bundle.specs.Entry.{Entry, entries}
 use Rattle.bundle.specs.Layout.{packedLength, encode}
 use Rattle.bundle.specs.declared.Written.{Written}

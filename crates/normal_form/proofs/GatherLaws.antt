@@ -16,7 +16,7 @@ use Rattle.bundle.specs.Records.{recordAt, rowOf, rowsOf, badPart, recordsStop}
 use Rattle.bundle.specs.Layout.{packedLength, encode}
 use Rattle.bundle.specs.Normal.{roomStop, answer, output}
 use Rattle.bundle.specs.declared.EntryRecord.{EntryRecord}
-use Rattle.bundle.proofs.ListLaws.{tab-same}
+use Rattle.wire.proofs.TabLaws.{tab-same}
 use Rattle.bundle.proofs.AcceptLaws.{rowsStop-same}
 use Rattle.bundle_reader.proofs.RecordLaws.{stop-many}
 use Rattle.bundle.specs.Writer.{entriesGiven, writeStop, write, writtenTo}

@@ -7,7 +7,7 @@ use lib.ListN.{length, getD, take}
 use Rattle.wire.specs.Order.{sortBy}
 use Rattle.wire.proofs.SortLaws.{sort-map, sort-total}
 use Rattle.entry_id.specs.IdRules.{IdRules, Lawful}
-use Rattle.bundle.specs.Lists.{tab}
+use Rattle.wire.specs.Lists.{tab}
 use Rattle.bundle.specs.Table.{Row}
 use Rattle.bundle.specs.Entry.{imageOf, entryOf, entriesOf}
 use Rattle.bundle.specs.Records.{rowOf, rowsOf}
@@ -16,7 +16,7 @@ use Rattle.bundle_reader.specs.Slots.{Held}
 use Rattle.bundle.specs.Layout.{rowSize, packedEnd, packedLength}
 use Rattle.bundle.specs.Normal.{byId}
 use Rattle.bundle.specs.declared.EntryRecord.{EntryRecord}
-use Rattle.bundle.proofs.ListLaws.{tab-same, tab-take, map-tab}
+use Rattle.wire.proofs.TabLaws.{tab-same, tab-take, map-tab}
 use Rattle.bundle.proofs.NormalLaws.{sort-packedLength}
 use Rattle.normal_form.specs.Code.{entryAt, given, inOrder, upTo, Filled, Placed}
 use Rattle.normal_form.proofs.OrderLaws.{sorted-below}

@@ -13,7 +13,7 @@ use Rattle.wire.specs.Order.{insertBy, sortBy}
 use Rattle.wire.proofs.FirstLaws.{first-is, first-none}
 use Rattle.wire.proofs.ListLaws.{member-at, at-member}
 use Rattle.wire.proofs.SortLaws.{spot, insert-at, sort-drop, sort-out}
-use Rattle.bundle.proofs.ListLaws.{length-tab, getD-tab}
+use Rattle.wire.proofs.TabLaws.{length-tab, getD-tab}
 use Rattle.normal_form.specs.Code.{upTo}
 
 -- ---- one element at place p

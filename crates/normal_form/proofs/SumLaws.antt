@@ -6,12 +6,11 @@ use mathlib.Core.Path.{_≡_, refl, sym, ap, _∙_}
 use mathlib.Core.List.{[], _∷_}
 use lib.Dec.{ltb}
 use borrow.Author.Tests.{lt-ltb, le-ltb, ltb-true, ltb-false}
-use Rattle.wire.specs.Lists.{total}
+use Rattle.wire.specs.Lists.{total, tab}
 use Rattle.wire.proofs.Bools.{byBool}
 use Rattle.wire.proofs.ListLaws.{total-append, total-same}
-use Rattle.bundle.specs.Lists.{tab}
-use Rattle.bundle.specs.Check.{limit}
-use Rattle.bundle.proofs.ListLaws.{length-tab, getD-tab, tab-next}
+use Rattle.wire.specs.Limit.{limit}
+use Rattle.wire.proofs.TabLaws.{length-tab, getD-tab, tab-next}
 use Rattle.normal_form.specs.Code.{upTo, capped}
 
 -- ---- sums

@@ -5,17 +5,16 @@ use mathlib.Core.Path.{_≡_, refl, sym, ap, ap₂, _∙_}
 use mathlib.Core.List.{List, [], _∷_, _++_, append-nil}
 use lib.ListN.{length, getD, length-append}
 use Rattle.wire.specs.Bytes.{overwrite}
-use Rattle.wire.specs.Lists.{total}
+use Rattle.wire.specs.Lists.{total, tab}
 use Rattle.wire.specs.Word.{bytesOf}
 use Rattle.wire.proofs.OverwriteLaws.{overwrite-nil, overwrite-then}
 use Rattle.wire.proofs.WordLaws.{length-bytesOf}
-use Rattle.bundle.specs.Lists.{tab}
 use Rattle.bundle.specs.Table.{Row}
 use Rattle.bundle.specs.Entry.{Entry}
 use Rattle.bundle.specs.Records.{recordAt, rowOf}
 use Rattle.bundle.specs.Layout.{rowBytes, table, images}
 use Rattle.bundle.specs.declared.EntryRecord.{EntryRecord}
-use Rattle.bundle.proofs.ListLaws.{tab-next}
+use Rattle.wire.proofs.TabLaws.{tab-next}
 use Rattle.bundle.proofs.EntryLaws.{length-imageOf}
 use Rattle.bundle.proofs.LayoutLaws.{length-rowBytes, table-append, table-one}
 use Rattle.bundle.proofs.PackLaws.{images-append}

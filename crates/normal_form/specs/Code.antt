@@ -5,11 +5,10 @@ use mathlib.Core.Bool.{Bool, true, false, cond}
 use mathlib.Core.List.{List, [], _++_}
 use lib.Dec.{ltb}
 use lib.ListN.{length, getD, take, replicate}
-use Rattle.wire.specs.Lists.{total}
+use Rattle.wire.specs.Lists.{total, tab}
 use Rattle.wire.specs.Order.{sortBy}
-use Rattle.bundle.specs.Lists.{tab}
 use Rattle.bundle.specs.Table.{Row}
-use Rattle.bundle.specs.Check.{limit}
+use Rattle.wire.specs.Limit.{limit}
 use Rattle.bundle.specs.Entry.{Entry, imageOf}
 use Rattle.bundle.specs.Records.{noRecord, recordAt, rowOf}
 use Rattle.bundle_reader.specs.Examined.{text}

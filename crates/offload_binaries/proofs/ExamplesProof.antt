@@ -1,10 +1,11 @@
 -- The examples on offload binaries, by computation. Assumes nothing.
 use mathlib.Core.Path.{refl}
+use Rattle.wire.specs.Lists.{tab}
 use Rattle.wire.specs.Word.{bytesOf, word, wordOf}
 use Rattle.wire.specs.Bytes.{same, empty}
 use Rattle.wire.specs.First.{first, anyBelow}
 use Rattle.wire.specs.Stop.{_⨾_, stopIf, stopWhen, earlier}
-use Rattle.offload_binary.specs.Lists.{tab, slots}
+use Rattle.offload_binary.specs.Lists.{slots}
 use Rattle.offload_binary.specs.Binary.{bytesAt, run, ended, sizeOf, entryAt, own, entryOf, keyAt, textAt, stringAt, pair, key, badHead, badSpan, badKinds, badTable, badString, badPair, badStrings, badImage, bodyStop, binaryStop, handsBack, binary}
 use Rattle.offload_binary.specs.Contents.{fieldBytes, texts, stringBytes, offsets, up8, zeros, stringsStart, stringsEnd, imageStart, imageEnd, binarySize, headFields, written}
 use Rattle.offload_binaries.specs.Reader.{past, nextStop, next, cursorAfter, answer, binariesOnly, accepted}

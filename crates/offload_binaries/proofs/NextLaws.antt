@@ -6,7 +6,7 @@ use mathlib.Core.List.{List}
 use lib.ListN.{length, drop, length-drop}
 use borrow.Author.Tests.{lt-ltb, le-ltb, eq-eqb, ne-eqb, le-leb, lt-leb}
 use Rattle.wire.specs.Stop.{_⨾_, stopIf, stopWhen}
-use Rattle.offload_binary.specs.Contents.{limit}
+use Rattle.wire.specs.Limit.{limit}
 use Rattle.offload_binary.specs.Binary.{handed, refused, answerBy, binaryAt, sizeOf, binaryStop, binary}
 use Rattle.offload_binaries.specs.Reader.{past, nextStop, next}
 use Rattle.offload_binaries.specs.declared.Cursor.{Cursor}

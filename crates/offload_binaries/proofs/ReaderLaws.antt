@@ -13,7 +13,7 @@ use Rattle.wire.specs.Bytes.{empty}
 use Rattle.wire.specs.Stop.{Stop, _⨾_, stopIf, stopWhen}
 use Rattle.wire.proofs.Bools.{byBool, clash, and-both, both-and}
 use Rattle.wire.proofs.StopLaws.{⨾-left, ⨾-right, ⨾-next, ⨾-stop, stopIf-no}
-use Rattle.offload_binary.specs.Contents.{limit}
+use Rattle.wire.specs.Limit.{limit}
 use Rattle.offload_binary.specs.Binary.{handed, refused, noBinary, sizeOf, bodyStop, binaryStop, binary}
 use Rattle.offload_binaries.specs.Reader.{past, nextStop, next, cursorAfter, answer, binariesOnly, accepted, binariesFrom, binaries}
 use Rattle.offload_binaries.specs.Theorems.{AcceptedAtEnd, OneAfterAnother, ReadsAll, Stays}

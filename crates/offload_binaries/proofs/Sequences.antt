@@ -7,11 +7,12 @@ use mathlib.Core.List.{List, [], _∷_, _++_, map, append-assoc}
 use lib.ListN.{length, drop, length-append}
 use lib.Seq.{drop-at}
 use borrow.Author.Tests.{le-leb}
+use Rattle.wire.specs.Limit.{limit}
 use Rattle.wire.specs.Bytes.{empty}
 use Rattle.wire.proofs.Bools.{both-and}
 use Rattle.offload_binary.specs.Binary.{sizeOf, binaryStop, binary}
 use Rattle.offload_binaries.specs.Reader.{past, nextStop, binariesOnly, accepted, binariesFrom, binaries}
-use Rattle.offload_binary.specs.Contents.{limit, Contents, contents, written}
+use Rattle.offload_binary.specs.Contents.{Contents, contents, written}
 use Rattle.offload_binaries.specs.Theorems.{ReadsBack, laid, All, ListsBack}
 use Rattle.offload_binary.specs.Theorems.{Writable}
 use Rattle.offload_binaries.specs.declared.Cursor.{Cursor}

@@ -6,7 +6,7 @@ use lib.ListN.{length, drop}
 use lib.Dec.{leb, ltb, eqb}
 use Rattle.wire.specs.Bytes.{empty}
 use Rattle.wire.specs.Stop.{Stop, _⨾_, stopIf}
-use Rattle.offload_binary.specs.Contents.{limit}
+use Rattle.wire.specs.Limit.{limit}
 use Rattle.offload_binary.specs.Binary.{sizeOf, binaryStop, binary, handed, refused}
 use Rattle.offload_binary.specs.declared.Binary.{Binary}
 use Rattle.offload_binaries.specs.declared.Cursor.{Cursor}

@@ -5,9 +5,10 @@ use mathlib.Core.Path.{_≡_}
 use mathlib.Core.Bool.{true}
 use mathlib.Core.List.{List, [], _∷_, _++_, map}
 use lib.ListN.{length, getD, drop}
+use Rattle.wire.specs.Limit.{limit}
 use Rattle.offload_binary.specs.Binary.{noBinary, binaryStop, binary, handed, refused}
 use Rattle.offload_binaries.specs.Reader.{next, cursorAfter, answer, accepted, binaries}
-use Rattle.offload_binary.specs.Contents.{Contents, contents, written, limit}
+use Rattle.offload_binary.specs.Contents.{Contents, contents, written}
 use Rattle.offload_binary.specs.Theorems.{Writable}
 use Rattle.offload_binaries.specs.declared.Cursor.{Cursor}
 

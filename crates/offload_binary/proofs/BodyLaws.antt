@@ -9,13 +9,15 @@ use lib.ListN.{length, getD, take, drop, length-take, length-drop}
 use lib.Seq.{getD-take, getD-drop, ext-getD, length-take-le}
 use lib.Dec.{ltb}
 use borrow.Author.Tests.{lt-ltb, le-ltb}
+use Rattle.wire.proofs.TabLaws.{length-tab, getD-tab}
+use Rattle.wire.specs.Lists.{tab}
 use Rattle.wire.specs.Bytes.{same}
 use Rattle.wire.specs.First.{anyBelow}
 use Rattle.wire.specs.Stop.{_⨾_, stopIf, stopWhen, earlier}
 use Rattle.wire.proofs.Bools.{byBool, clash, or-neither}
 use Rattle.wire.proofs.FirstLaws.{any-same, none-any}
 use Rattle.wire.proofs.StopLaws.{earlier-same}
-use Rattle.offload_binary.specs.Lists.{tab, slots}
+use Rattle.offload_binary.specs.Lists.{slots}
 use Rattle.offload_binary.specs.Binary.{bytesAt, run, entryOf, keyAt, textAt, stringAt, pair, key, badKinds, badTable, badString, badPair, badStrings, badImage, bodyStop, noPair, handsBack, handed, refused, answerBy}
 use Rattle.offload_binary.specs.Code.{noneRead, pairsRead, readPairs, readStrings, bodyAnswer}
 use Rattle.offload_binary.specs.Binary.{keyIn, badKeys}
@@ -23,7 +25,7 @@ use Rattle.offload_binary.specs.declared.StringPair.{StringPair}
 use Rattle.offload_binary.specs.declared.Entry.{Entry}
 use Rattle.offload_binary.specs.declared.ReadPairs.{ReadPairs}
 use Rattle.offload_binary.specs.declared.Answer.{Answer}
-use Rattle.offload_binary.proofs.ListLaws.{length-tab, getD-tab, getD-slots}
+use Rattle.offload_binary.proofs.ListLaws.{getD-slots}
 use Rattle.offload_binary.proofs.StringLaws.{string-fits}
 use Rattle.offload_binary.proofs.HeadLaws.{table-fits}
 

@@ -1,43 +1,19 @@
 -- Laws of lists made index by index, and of arrays of a fixed length. Assumes nothing.
-use Prim.Native.Nat.{ℕ, zero, suc, _+_, _-_, _<_}
+use Prim.Native.Nat.{ℕ, suc, _+_, _-_, _<_}
 use native.Mathlib.Omega.{arith}
 use native.Mathlib.Numerals.{add-one}
 use mathlib.Core.Path.{_≡_, refl, sym, ap, _∙_}
-use mathlib.Core.List.{List, [], _∷_, _++_, map, append-assoc}
+use mathlib.Core.List.{List, [], _∷_, _++_, append-assoc}
 use lib.ListN.{length, getD, take, set, replicate, List·getD-append}
 use lib.Seq.{take-at, set-at}
-use Rattle.offload_binary.specs.Lists.{tab, slots}
-
-pub length-tab : {A : Type 0} (n : ℕ) (f : ℕ → A) → length (tab n f) ≡ n
-unfolding tab
-length-tab zero f = refl
-length-tab (suc n) f = ap suc (length-tab n (λ i. f (suc i)))
-
-pub getD-tab : {A : Type 0} (n : ℕ) (f : ℕ → A) (i : ℕ) (d : A) → i < n → getD (tab n f) i d ≡ f i
-unfolding tab
-getD-tab zero f i d h = absurd (omega arith)
-getD-tab (suc n) f zero d h = refl
-getD-tab (suc n) f (suc i) d h = getD-tab n (λ j. f (suc j)) i d (omega arith)
-
-pub tab-same : {A : Type 0} (n : ℕ) (f g : ℕ → A) → ((i : ℕ) → i < n → f i ≡ g i) → tab n f ≡ tab n g
-unfolding tab
-tab-same zero f g h = refl
-tab-same (suc n) f g h = rw (h zero (omega arith), tab-same n (λ i. f (suc i)) (λ i. g (suc i)) (λ i l. h (suc i) (omega arith)))
-
-pub map-tab : {A B : Type 0} (f : A → B) (n : ℕ) (g : ℕ → A) → map f (tab n g) ≡ tab n (λ i. f (g i))
-unfolding tab
-map-tab f zero g = refl
-map-tab f (suc n) g = ap (λ l. f (g zero) ∷ l) (map-tab f n (λ i. g (suc i)))
+use Rattle.wire.specs.Lists.{tab}
+use Rattle.wire.proofs.TabLaws.{length-tab, tab-snoc}
+use Rattle.offload_binary.specs.Lists.{slots}
 
 pub tab-getD : {A : Type 0} (l : List A) (d : A) → tab (length l) (λ i. getD l i d) ≡ l
 unfolding tab
 tab-getD [] d = refl
 tab-getD (x ∷ l) d = ap (λ m. x ∷ m) (tab-getD l d)
-
-pub tab-snoc : {A : Type 0} (n : ℕ) (f : ℕ → A) → tab (suc n) f ≡ tab n f ++ (f n ∷ [])
-unfolding tab
-tab-snoc zero f = refl
-tab-snoc (suc n) f = ap (λ l. f zero ∷ l) (tab-snoc n (λ i. f (suc i)))
 
 -- ---- slots
 

@@ -6,12 +6,13 @@ use mathlib.Core.List.{List, []}
 use lib.ListN.{drop}
 use lib.Dec.{ltb}
 use borrow.Author.Tests.{eq-eqb, ne-eqb, le-ltb, lt-ltb}
+use Rattle.wire.specs.Lists.{tab}
 use Rattle.wire.specs.Word.{word}
 use Rattle.wire.specs.Bytes.{same}
 use Rattle.wire.specs.Stop.{earlier}
 use Rattle.wire.proofs.Bools.{neither-or}
 use Rattle.wire.proofs.FirstLaws.{any-some, any-none}
-use Rattle.offload_binary.specs.Lists.{tab, slots}
+use Rattle.offload_binary.specs.Lists.{slots}
 use Rattle.offload_binary.specs.Binary.{run, keyAt, textAt, stringAt, pair, badString, badPair, noPair}
 use Rattle.offload_binary.specs.Code.{stringLen, readPair, readPairs}
 use Rattle.offload_binary.specs.Binary.{keyIn, badKeys}

@@ -9,6 +9,8 @@ use lib.ListN.{length, getD, take, drop, length-append}
 use lib.Seq.{take-at, drop-append-add}
 use lib.Dec.{ltb, eqb}
 use borrow.Author.Tests.{eq-eqb, le-ltb, lt-ltb, ne-eqb}
+use Rattle.wire.proofs.TabLaws.{length-tab, tab-same, map-tab}
+use Rattle.wire.specs.Lists.{tab}
 use Rattle.wire.specs.Word.{word}
 use Rattle.wire.specs.Bytes.{same, empty}
 use Rattle.wire.specs.Stop.{go, _⨾_, earlier}
@@ -16,11 +18,11 @@ use Rattle.wire.proofs.Bools.{clash, neither-or, yes-not}
 use Rattle.wire.proofs.ByteLaws.{eq-same}
 use Rattle.wire.proofs.FirstLaws.{any-none}
 use Rattle.wire.proofs.StopLaws.{⨾-both, stopIf-go, earlier-same}
-use Rattle.offload_binary.specs.Lists.{tab, slots}
+use Rattle.offload_binary.specs.Lists.{slots}
 use Rattle.offload_binary.specs.Binary.{bytesAt, run, ended, magic, sizeOf, entryAt, own, entryOf, keyAt, textAt, stringAt, pair, key, badHead, badSpan, badKinds, badTable, badString, badPair, badStrings, badImage, bodyStop, binaryStop, noPair, handsBack, binary}
 use Rattle.offload_binary.specs.Contents.{KeyText, noKeyText, Contents, keyText, contents, texts, imageStart, written, keyOf}
 use Rattle.offload_binary.specs.declared.StringPair.{StringPair}
-use Rattle.offload_binary.proofs.ListLaws.{length-tab, tab-same, map-tab, tab-getD, take-slots}
+use Rattle.offload_binary.proofs.ListLaws.{tab-getD, take-slots}
 use Rattle.offload_binary.proofs.WrittenLaws.{Good, body, written-body, length-written, version-read, size-read, entryAt-read, entrySize-read, entry, entry-read, offset, offset-is, string-there, image-there, image-end, end-eq, strings-end, strings-eq, start-eq, run-ends, texts-key, texts-text, length-texts}
 
 ended-at : (t m : List ℕ) → ended t ≡ false → ended (t ++ (0 ∷ m)) ≡ true

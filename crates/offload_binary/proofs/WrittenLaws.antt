@@ -8,6 +8,7 @@ use lib.ListN.{length, getD, take, drop, length-append, length-replicate, List·
 use lib.Seq.{drop-at, take-at, getD-at, split-at, drop-append-add}
 use lib.Dec.{ltb, eqb}
 use borrow.Author.Tests.{ltb-false}
+use Rattle.wire.specs.Limit.{limit}
 use Rattle.wire.specs.Word.{bytesOf, word}
 use Rattle.wire.specs.Bytes.{same, empty}
 use Rattle.wire.specs.First.{anyBelow}
@@ -16,7 +17,7 @@ use Rattle.wire.proofs.Bools.{or-neither}
 use Rattle.wire.proofs.WordLaws.{length-bytesOf, word-at}
 use Rattle.wire.proofs.FirstLaws.{first-is, none-any}
 use Rattle.offload_binary.specs.Binary.{magic, run, ended, sizeOf, entryAt, entryOf, badKinds}
-use Rattle.offload_binary.specs.Contents.{KeyText, noKeyText, Contents, Field, _∶_, fieldBytes, texts, stringBytes, offsets, up8, zeros, stringsStart, stringsEnd, imageStart, imageEnd, binarySize, headFields, written, keyOf, badText, badKeyTexts, limit, tooBig}
+use Rattle.offload_binary.specs.Contents.{KeyText, noKeyText, Contents, Field, _∶_, fieldBytes, texts, stringBytes, offsets, up8, zeros, stringsStart, stringsEnd, imageStart, imageEnd, binarySize, headFields, written, keyOf, badText, badKeyTexts, tooBig}
 use Rattle.offload_binary.specs.Theorems.{Writable}
 use Rattle.offload_binary.specs.declared.Entry.{Entry}
 

@@ -6,11 +6,12 @@ use mathlib.Core.Bool.{Bool, not, _&&_, _||_}
 use mathlib.Core.List.{List, [], _∷_}
 use lib.ListN.{length, getD, take, drop}
 use lib.Dec.{ltb, eqb}
+use Rattle.wire.specs.Lists.{tab}
 use Rattle.wire.specs.Word.{word}
 use Rattle.wire.specs.Bytes.{same}
 use Rattle.wire.specs.First.{first, anyBelow}
 use Rattle.wire.specs.Stop.{Stop, _⨾_, stopIf, earlier}
-use Rattle.offload_binary.specs.Lists.{tab, slots}
+use Rattle.offload_binary.specs.Lists.{slots}
 use Rattle.offload_binary.specs.declared.Part.{Part}
 use Rattle.offload_binary.specs.declared.StringPair.{StringPair}
 use Rattle.offload_binary.specs.declared.Entry.{Entry}

@@ -3,8 +3,9 @@ use Prim.Native.Nat.{ℕ}
 use mathlib.Core.Bool.{true, false, cond}
 use mathlib.Core.List.{List, []}
 use lib.ListN.{drop}
+use Rattle.wire.specs.Lists.{tab}
 use Rattle.wire.specs.First.{anyBelow}
-use Rattle.offload_binary.specs.Lists.{tab, slots}
+use Rattle.offload_binary.specs.Lists.{slots}
 use Rattle.offload_binary.specs.Binary.{run, entryOf, pair, badString, badPair, badStrings, bodyStop, noPair, handsBack, answerBy}
 use Rattle.offload_binary.specs.declared.ReadPair.{ReadPair}
 use Rattle.offload_binary.specs.declared.ReadPairs.{ReadPairs}

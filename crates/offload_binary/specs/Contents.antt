@@ -4,6 +4,7 @@ use mathlib.Core.Bool.{Bool, _||_}
 use mathlib.Core.List.{List, [], _∷_, _++_, map}
 use lib.ListN.{length, getD, take, replicate}
 use lib.Dec.{ltb}
+use Rattle.wire.specs.Limit.{limit}
 use Rattle.wire.specs.Word.{bytesOf}
 use Rattle.wire.specs.Bytes.{same, empty}
 use Rattle.wire.specs.First.{anyBelow}
@@ -129,10 +130,6 @@ badKeyTexts ts =
     || anyBelow (length (texts ts)) (λ j. badText (getD (texts ts) j []))
     || anyBelow (length ts) (λ i. empty (keyOf ts i))
     || anyBelow (length ts) (earlier same (keyOf ts))
-
--- "Container or output: at most 1,073,741,824 bytes."
-abbrev pub limit : ℕ
-limit = 1073741824
 
 -- 11 BIG: "the output would be above the size limit"
 unfoldable pub tooBig : Contents → Bool

@@ -18,9 +18,10 @@ use lib.ListN.{length, getD, set, replicate, length-set, length-replicate, lengt
 use lib.Seq.{ext-getD, getD-set-same, getD-set-other, getD-take, length-take-le}
 use lib.Dec.{leb}
 use borrow.Author.Tests.{leb-true, leb-false}
+use Rattle.wire.specs.Lists.{tab}
 use Rattle.wire.proofs.Bools.{byBool}
-use Rattle.offload_binary.specs.Lists.{tab, slots}
-use Rattle.offload_binary.proofs.ListLaws.{length-tab, getD-tab}
+use Rattle.offload_binary.specs.Lists.{slots}
+use Rattle.wire.proofs.TabLaws.{length-tab, getD-tab}
 use Rattle.offload_binary_writer.specs.Writer.{write}
 use Rattle.offload_binary_list.specs.Code.{gathered}
 use Rattle.offload_binary_writer.specs.Writer.{listed}

@@ -7,6 +7,7 @@ use mathlib.Core.List.{List, [], _++_}
 use lib.ListN.{length, getD, drop, length-take, length-drop}
 use lib.Dec.{ltb, eqb}
 use borrow.Author.Tests.{lt-ltb, le-ltb, ltb-false, eqb-true, eqb-false}
+use Rattle.wire.specs.Limit.{limit}
 use Rattle.wire.specs.Bytes.{same, overwrite}
 use Rattle.wire.specs.First.{anyBelow}
 use Rattle.wire.specs.Stop.{_⨾_, stopIf, stopWhen, earlier}
@@ -15,9 +16,9 @@ use Rattle.wire.proofs.FirstLaws.{any-some, any-none, any-same, none-any}
 use Rattle.wire.proofs.StopLaws.{earlier-same}
 use Rattle.wire.proofs.OverwriteLaws.{overwrite-in}
 use Rattle.offload_binary.specs.Binary.{bytesAt, ended, badKinds, noPair, keyIn, badKeys}
-use Rattle.offload_binary.specs.Contents.{Contents, limit, imageStart, imageEnd, binarySize, written, tooBig}
+use Rattle.offload_binary.specs.Contents.{Contents, imageStart, imageEnd, binarySize, written, tooBig}
 use Rattle.offload_binary.specs.declared.StringPair.{StringPair}
-use Rattle.offload_binary.proofs.ListLaws.{getD-tab}
+use Rattle.wire.proofs.TabLaws.{getD-tab}
 use Rattle.offload_binary.proofs.WrittenLaws.{up8-le, length-written}
 use Rattle.offload_binary_writer.specs.Writer.{badPart, badPair, badPairs, given, writeStop, outputBy, write}
 use Rattle.offload_binary_writer.specs.Code.{partIn, textIn}

@@ -8,13 +8,13 @@ use lib.ListN.{length, getD, take, replicate, length-append, length-map}
 use lib.Seq.{ext-getD}
 use lib.Dec.{eqb}
 use borrow.Author.Tests.{eqb-true, eqb-false, eq-eqb, ne-eqb}
+use Rattle.wire.proofs.TabLaws.{length-tab, getD-tab, map-tab, tab-snoc}
 use Rattle.wire.specs.Word.{bytesOf}
 use Rattle.wire.proofs.Bools.{byBool}
-use Rattle.offload_binary.specs.Lists.{tab}
+use Rattle.wire.specs.Lists.{tab}
 use Rattle.offload_binary.specs.Binary.{bytesAt, noPair}
 use Rattle.offload_binary.specs.Contents.{KeyText, noKeyText, keyText, fieldBytes, texts, stringBytes, offsets, keyOf}
 use Rattle.offload_binary.specs.declared.StringPair.{StringPair}
-use Rattle.offload_binary.proofs.ListLaws.{length-tab, getD-tab, tab-snoc, map-tab}
 use Rattle.offload_binary.proofs.WrittenLaws.{length-texts, texts-key, texts-text, length-strings, strings-append}
 use Rattle.offload_binary_writer.specs.Code.{partIn, textIn}
 use Rattle.offload_binary_writer.specs.Writer.{listed}

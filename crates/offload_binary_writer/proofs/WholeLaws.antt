@@ -7,11 +7,11 @@ use lib.ListN.{length, replicate, length-append, length-replicate}
 use Rattle.wire.specs.Word.{bytesOf}
 use Rattle.wire.specs.Bytes.{overwrite}
 use Rattle.wire.proofs.OverwriteLaws.{overwrite-then}
-use Rattle.offload_binary.specs.Lists.{tab}
+use Rattle.wire.specs.Lists.{tab}
 use Rattle.offload_binary.specs.Binary.{magic}
 use Rattle.offload_binary.specs.Contents.{KeyText, Contents, keyText, fieldBytes, texts, stringBytes, offsets, up8, zeros, stringsStart, stringsEnd, imageStart, imageEnd, binarySize, headFields, written}
 use Rattle.offload_binary.specs.declared.StringPair.{StringPair}
-use Rattle.offload_binary.proofs.ListLaws.{length-tab}
+use Rattle.wire.proofs.TabLaws.{length-tab}
 use Rattle.offload_binary.proofs.WrittenLaws.{up8-le, length-offsets}
 use Rattle.offload_binary_writer.specs.Writer.{given}
 use Rattle.offload_binary_writer.specs.Code.{textIn, LayoutIs, headerBytes, entryFields}

@@ -8,10 +8,10 @@ use Rattle.wire.specs.Word.{bytesOf}
 use Rattle.wire.specs.Bytes.{overwrite}
 use Rattle.wire.proofs.WordLaws.{length-bytesOf}
 use Rattle.wire.proofs.OverwriteLaws.{overwrite-nil, overwrite-then, length-overwrite}
-use Rattle.offload_binary.specs.Lists.{tab}
+use Rattle.wire.specs.Lists.{tab}
 use Rattle.offload_binary.specs.Binary.{magic}
 use Rattle.offload_binary.specs.Contents.{Field, _∶_, fieldBytes, stringBytes, offsets}
-use Rattle.offload_binary.proofs.ListLaws.{length-tab}
+use Rattle.wire.proofs.TabLaws.{length-tab}
 use Rattle.offload_binary.proofs.WrittenLaws.{widths, length-fields, length-offsets}
 use Rattle.offload_binary_writer.specs.Code.{headerBytes, entryFields}
 use Rattle.offload_binary_writer.specs.declared.Tags.{Tags}

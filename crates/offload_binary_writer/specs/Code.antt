@@ -5,7 +5,7 @@ use mathlib.Core.Bool.{cond}
 use mathlib.Core.List.{List, [], _∷_, _++_}
 use lib.ListN.{length, getD}
 use lib.Dec.{eqb}
-use Rattle.offload_binary.specs.Lists.{tab}
+use Rattle.wire.specs.Lists.{tab}
 use Rattle.offload_binary.specs.Binary.{magic, bytesAt, noPair}
 use Rattle.offload_binary.specs.Contents.{Field, _∶_, fieldBytes, stringBytes, up8}
 use Rattle.offload_binary.specs.declared.Part.{Part}

@@ -3,7 +3,8 @@ use Prim.Native.Nat.{ℕ, _^_, _<_, _≤_}
 use mathlib.Core.Path.{_≡_}
 use mathlib.Core.List.{List, _++_}
 use lib.ListN.{length, take, drop}
-use Rattle.offload_binary.specs.Contents.{limit, written}
+use Rattle.wire.specs.Limit.{limit}
+use Rattle.offload_binary.specs.Contents.{written}
 use Rattle.offload_binary.specs.Theorems.{Writable}
 use Rattle.offload_binary.specs.declared.StringPair.{StringPair}
 use Rattle.offload_binaries.specs.Theorems.{ReadsBack}

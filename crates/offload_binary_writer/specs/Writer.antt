@@ -7,7 +7,7 @@ use lib.Dec.{ltb, eqb}
 use Rattle.wire.specs.Bytes.{same}
 use Rattle.wire.specs.First.{anyBelow}
 use Rattle.wire.specs.Stop.{Stop, _⨾_, stopIf, earlier}
-use Rattle.offload_binary.specs.Lists.{tab}
+use Rattle.wire.specs.Lists.{tab}
 use Rattle.offload_binary.specs.Binary.{bytesAt, ended, badKinds, noPair, keyIn}
 use Rattle.offload_binary.specs.Contents.{Contents, keyText, binarySize, written, tooBig}
 use Rattle.offload_binary.specs.declared.Part.{Part}

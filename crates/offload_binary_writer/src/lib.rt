@@ -6,7 +6,7 @@ ghost use mathlib.Core.List.{[], _∷_, _++_};
 ghost use Prim.Native.Nat.{ℕ, _+_, _*_, _<_, _≤_};
 ghost use lib.ListN.{length, replicate};
 ghost use Rattle.wire.specs.Bytes.{overwrite};
-ghost use Rattle.offload_binary.specs.Lists.{tab};
+ghost use Rattle.wire.specs.Lists.{tab};
 ghost use Rattle.offload_binary.specs.Contents.{fieldBytes, offsets, stringBytes, up8, written};
 ghost use Rattle.offload_binary_writer.specs.Writer.{listed, badPart, badPair, badPairs, given, write};
 ghost use Rattle.offload_binary_writer.specs.Code.{partIn, textIn, LayoutIs, headerBytes, entryFields};

@@ -3,6 +3,7 @@ pub mod WordLaws
 pub mod ByteLaws
 pub mod OverwriteLaws
 pub mod ListLaws
+pub mod TabLaws
 pub mod SortLaws
 pub mod FirstLaws
 pub mod StopLaws

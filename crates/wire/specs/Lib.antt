@@ -5,3 +5,4 @@ pub mod Order
 pub mod First
 pub mod Stop
 pub mod Theorems
+pub mod Limit

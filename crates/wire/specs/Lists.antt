@@ -1,5 +1,5 @@
 -- Tests on lists, and sums over them. Definitions only.
-use Prim.Native.Nat.{ℕ, _+_}
+use Prim.Native.Nat.{ℕ, _+_, zero, suc}
 use mathlib.Core.Bool.{Bool, true, false, _&&_, _||_}
 use mathlib.Core.List.{List, [], _∷_}
 
@@ -24,3 +24,8 @@ agree t (x ∷ a) (y ∷ b) = t x y && agree t a b
 unfoldable pub total : {A : Type 0} → (A → ℕ) → List A → ℕ
 total f [] = 0
 total f (x ∷ l) = f x + total f l
+
+-- f 0, .., f (n - 1)
+unfoldable pub tab {ℓ} : {A : Type ℓ} → ℕ → (ℕ → A) → List A
+tab zero f = []
+tab (suc n) f = f zero ∷ tab n (λ i. f (suc i))

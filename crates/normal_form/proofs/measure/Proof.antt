@@ -2,7 +2,7 @@ use native.Mathlib.Omega.{arith}
 use mathlib.Core.Path.{_≡_, ap, _∙_}
 use Prim.Native.Nat.{_≤_, _-_, _+_}
 use Rattle.wire.specs.Lists.{total}
-use Rattle.bundle.specs.Check.{limit}
+use Rattle.wire.specs.Limit.{limit}
 use Rattle.bundle.specs.Records.{recordAt}
 use Rattle.normal_form.specs.Code.{capped, upTo, rowLength, entryLength}
 use Rattle.normal_form.proofs.SumLaws.{sum-none, sum-next, sum-room, capped-over, capped-in}

@@ -4,7 +4,7 @@ use mathlib.Core.List.{[]}
 use lib.ListN.{getD}
 use Rattle.wire.specs.Bytes.{overwrite}
 use Rattle.wire.specs.Word.{bytesOf}
-use Rattle.bundle.specs.Lists.{tab}
+use Rattle.wire.specs.Lists.{tab}
 use Rattle.bundle.specs.Table.{magic}
 use Rattle.bundle.specs.Layout.{table, images}
 use Rattle.normal_form.specs.Code.{inOrder, rowAfter}

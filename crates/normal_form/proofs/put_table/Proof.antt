@@ -4,8 +4,7 @@ use Prim.Native.Nat.{_≤_, _<_, _-_, _+_}
 use lib.ListN.{length, getD}
 use borrow.Author.Needs.{needs}
 use Rattle.wire.specs.Bytes.{overwrite}
-use Rattle.wire.specs.Lists.{total}
-use Rattle.bundle.specs.Lists.{tab}
+use Rattle.wire.specs.Lists.{total, tab}
 use Rattle.bundle.specs.Records.{recordAt}
 use Rattle.bundle.specs.Layout.{rowBytes, table}
 use Rattle.normal_form.specs.Code.{upTo, sizeOf, idOf, rowAfter}

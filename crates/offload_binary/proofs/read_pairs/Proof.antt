@@ -5,7 +5,8 @@ use mathlib.Core.Path.{_≡_, refl, sym, ap, ap₂, _∙_}
 use mathlib.Core.Bool.{false}
 use lib.ListN.{set}
 use borrow.Author.Count.{below-more}
-use Rattle.offload_binary.specs.Lists.{tab, slots}
+use Rattle.wire.specs.Lists.{tab}
+use Rattle.offload_binary.specs.Lists.{slots}
 use Rattle.offload_binary.specs.Binary.{pair, badPair, noPair}
 use Rattle.offload_binary.proofs.ListLaws.{slots-next}
 use Rattle.offload_binary.proofs.PairLaws.{read-bad, read-is, pairs-bad, pairs-good}

@@ -3,7 +3,7 @@ use native.Mathlib.Omega.{arith}
 use Prim.Native.Nat.{_*_, _-_, _≤_}
 use mathlib.Core.Path.{_≡_, sym, ap, _∙_}
 use lib.ListN.{length}
-use Rattle.offload_binary.specs.Lists.{tab}
+use Rattle.wire.specs.Lists.{tab}
 use Rattle.offload_binary.specs.Contents.{stringBytes}
 use Rattle.offload_binary_writer.specs.Code.{textIn}
 use Rattle.offload_binary_writer.proofs.TextLaws.{strings-none, length-more}

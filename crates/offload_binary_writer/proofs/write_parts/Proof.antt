@@ -3,7 +3,7 @@ use Prim.Native.Nat.{_*_, _-_}
 use mathlib.Core.Path.{ap, _∙_}
 use lib.ListN.{length, replicate}
 use Rattle.wire.specs.Bytes.{overwrite}
-use Rattle.offload_binary.specs.Lists.{tab}
+use Rattle.wire.specs.Lists.{tab}
 use Rattle.offload_binary.specs.Contents.{fieldBytes, offsets, stringBytes}
 use Rattle.offload_binary_writer.specs.Code.{textIn, entryFields}
 use Rattle.offload_binary_writer.proofs.WholeLaws.{ordered, whole}

@@ -5,7 +5,7 @@ use native.Mathlib.Numerals.{add-one}
 use mathlib.Core.Path.{_≡_, refl, ap, ap₂, _∙_}
 use mathlib.Core.List.{List, [], _∷_, _++_, map}
 use lib.ListN.{length, getD, take}
-use Rattle.bundle.specs.Lists.{tab}
+use Rattle.wire.specs.Lists.{tab}
 
 pub length-tab : {A : Type 0} (n : ℕ) (f : ℕ → A) → length (tab n f) ≡ n
 unfolding tab
@@ -19,7 +19,7 @@ getD-tab (suc n) f zero d h = refl
 getD-tab (suc n) f (suc i) d h = getD-tab n (λ j. f (suc j)) i d (omega arith)
 
 -- one more at the end
-tab-snoc : {A : Type 0} (n : ℕ) (f : ℕ → A) → tab (suc n) f ≡ tab n f ++ (f n ∷ [])
+pub tab-snoc : {A : Type 0} (n : ℕ) (f : ℕ → A) → tab (suc n) f ≡ tab n f ++ (f n ∷ [])
 unfolding tab
 tab-snoc zero f = refl
 tab-snoc (suc n) f = ap (λ l. f zero ∷ l) (tab-snoc n (λ i. f (suc i)))
