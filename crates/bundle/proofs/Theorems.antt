@@ -11,16 +11,17 @@ use Rattle.wire.specs.Stop.{Stop}
 use Rattle.wire.specs.First.{anyBelow}
 use Rattle.wire.proofs.Bools.{byBool}
 use Rattle.wire.proofs.FirstLaws.{none-any}
+use Rattle.wire.proofs.StopLaws.{⨾-left, ⨾-right, ⨾-both}
 use Rattle.entry_id.specs.IdRules.{IdRules, Lawful}
 use Rattle.bundle.specs.Table.{count, row, tableEnd}
-use Rattle.bundle.specs.Check.{bundleStop, unrefused, check}
+use Rattle.bundle.specs.Check.{headStop, tableStop, bundleStop, unrefused, check}
 use Rattle.bundle.specs.Entry.{noEntry, imageOf, entryOf, entries}
 use Rattle.bundle.specs.Pick.{compatibleAt, chosen, pickStop, pick}
 use Rattle.bundle.specs.Accepted.{Accepted, Inside}
-use Rattle.bundle.specs.Theorems.{CheckExact, refusal, imageAt, Asked, PickExact, TableDecides}
+use Rattle.bundle.specs.Theorems.{CheckExact, refusal, imageAt, Asked, PickExact, FramedExact, TableDecides}
 use Rattle.bundle.specs.declared.Picked.{Picked}
 use Rattle.bundle.proofs.CheckLaws.{unrefused-stop, bundleStop-le}
-use Rattle.bundle.proofs.AcceptLaws.{accepted, accepted-go}
+use Rattle.bundle.proofs.AcceptLaws.{framed, head-go, table-go, accepted, accepted-go}
 use Rattle.bundle.proofs.EntryLaws.{entries-at}
 use Rattle.bundle.proofs.PickLaws.{pick-refused, pick-query, pick-none, pickStop-go, picked-asked, chosen-lt, chosen-compatible, pick-image, compatible-one, pick-found}
 use Rattle.bundle.proofs.TableLaws.{check-same, pick-same}
@@ -126,3 +127,9 @@ table-decides R s t f l h =
     let agree : (k : ℕ) → k < tableEnd s → getD s k 0 ≡ getD t k 0 =
     λ k b. sym (getD-take (tableEnd s) s k 0 b) ∙ ap (λ (z : List ℕ). getD z k 0) h ∙ getD-take (tableEnd s) t k 0 b in
     record { checks = check-same s t f l agree R; picks = pick-same s t f l agree R }
+
+pub framed-exact : (s : List ℕ) → FramedExact s
+framed-exact s = (
+  (λ e. framed s (⨾-left (headStop s) (tableStop s) e) (⨾-right (headStop s) (tableStop s) e)),
+  (λ f. ap (λ t. t .number) (⨾-both (headStop s) (tableStop s) (head-go s f) (table-go s f))),
+)

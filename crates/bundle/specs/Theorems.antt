@@ -8,7 +8,8 @@ use lib.ListN.{length, getD, take, drop}
 use Rattle.wire.specs.Bytes.{empty}
 use Rattle.entry_id.specs.IdRules.{IdRules}
 use Rattle.bundle.specs.Table.{count, row, tableEnd}
-use Rattle.bundle.specs.Check.{check}
+use Rattle.wire.specs.Stop.{_⨾_}
+use Rattle.bundle.specs.Check.{headStop, tableStop, check}
 use Rattle.bundle.specs.Entry.{noEntry, entries}
 use Rattle.bundle.specs.Pick.{compatibleAt, pick}
 use Rattle.bundle.specs.Accepted.{Framed, Accepted}
@@ -54,6 +55,10 @@ pub record PickExact (R : IdRules) (s device : List ℕ) : Type 0 where
 pub record SameAnswers (R : IdRules) (s t : List ℕ) : Type 0 where
   pub checks : check R s ≡ check R t
   pub picks : (device : List ℕ) → pick R s device ≡ pick R t device
+
+-- "passes 1 to 4"
+abbrev pub FramedExact : List ℕ → Type 0
+FramedExact s = ((headStop s ⨾ tableStop s) .number ≡ 0) ↔ Framed s
 
 abbrev pub TableDecides : IdRules → Type 0
 TableDecides R = (s t : List ℕ) → Framed s → length s ≡ length t → take (tableEnd s) s ≡ take (tableEnd s) t → SameAnswers R s t

@@ -225,6 +225,7 @@ module _ (s : List ℕ) where
     next = λ n e. let e′ = earlier-ok n e in (e′, starts (suc n) e ∙ follows n e′);
     each = λ n e.
         (ap (λ k. binaryStop (drop k s) .number) (starts n e) ∙ fine n e .sound, binary-is n e ∙ ap (λ k. binary k (drop k s)) (sym (starts n e)));
+    first-stop = λ no. place-is 0 no;
     stop = λ n e no. place-is (suc n) no ∙ follows n e;
     end = λ n e. place-is n (λ z. omega (arith, e, z)) ∙ at-end-is n e;
   }

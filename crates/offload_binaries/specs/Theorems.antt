@@ -25,7 +25,8 @@ pub record OneAfterAnother (s : List ℕ) : Type 0 where
   -- each is what the bytes from its first byte on say, and none of 13 to 17 refuses them
   pub each : (n : ℕ) → answer s n .number ≡ 0
       → (binaryStop (drop (answer s n .binary .start) s) .number ≡ 0) × (answer s n .binary ≡ binary (answer s n .binary .start) (drop (answer s n .binary .start) s))
-  -- what ends them stands right behind the last; "END: the length"
+  -- what ends them stands at the first byte, or right behind the last; "END: the length"
+  pub first-stop : (answer s 0 .number ≡ 0 → ⊥) → answer s 0 .place ≡ 0
   pub stop : (n : ℕ) → answer s n .number ≡ 0 → (answer s (suc n) .number ≡ 0 → ⊥) → answer s (suc n) .place ≡ answer s n .binary .start + answer s n .binary .size
   pub end : (n : ℕ) → answer s n .number ≡ 19 → answer s n .place ≡ length s
 
