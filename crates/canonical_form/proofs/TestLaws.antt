@@ -2,21 +2,21 @@
 use Prim.Native.Nat.{ℕ, suc, _+_, _-_, _≤_, _<_}
 use mathlib.Core.Path.{_≡_, refl, sym, ap, ap₂, _∙_, subst}
 use mathlib.Core.Logic.{inl, inr}
-use mathlib.Core.Bool.{Bool, true, false, not, _&&_}
+use mathlib.Core.Bool.{Bool, true, false, not, _&&_, _||_}
 use mathlib.Core.List.{append-nil, List, [], _∷_, _++_}
-use lib.ListN.{length, getD, drop, drop-of-length-le}
-use lib.Seq.{drop-cons}
-use lib.Dec.{T, ltb, leb}
+use lib.ListN.{length, getD, take, drop, drop-of-length-le, length-drop}
+use lib.Seq.{take-all, drop-cons, drop-drop, getD-drop}
+use lib.Dec.{T, ltb, leb, eqb}
 use borrow.Author.Tests.{eqb-true, eqb-false, eq-eqb, ne-eqb, lt-ltb, ltb-true, ltb-false, leb-true, leb-false, not-false}
 use Rattle.wire.specs.Lists.{agree, any, every}
 use Rattle.entry_id.specs.Text.{splitOn, onFirst, notColon}
-use Rattle.wire.specs.Bytes.{same}
+use Rattle.wire.specs.Bytes.{same, common}
 use Rattle.entry_id.proofs.TextLaws.{split-last, split-skip, split-some}
-use Rattle.wire.proofs.Bools.{cases}
+use Rattle.wire.proofs.Bools.{cases, byBool}
 use Rattle.entry_id.specs.Meaning.{piecesOf}
 use Rattle.entry_id.proofs.ReadBack.{no-colon}
 use Rattle.canonical_form.specs.Scan.{part, Run, piecesAt, endsAt, MeetIs}
-use Rattle.entry_id.specs.Canonical.{headOf, within, sameButSign, compatibleText, mixedText}
+use Rattle.entry_id.specs.Canonical.{headOf, within, signByte, sameButSign, compatibleText, mixedText}
 use Rattle.canonical_form.proofs.RunLaws.{part-drop}
 use Rattle.canonical_form.proofs.SpanLaws.{pieces-here, pieces-none}
 use native.Mathlib.Omega.{arith}
@@ -183,21 +183,67 @@ alike-lengths (x ∷ a) (y ∷ b) h = rw (alike-lengths a b (λ (e : length a �
     both-no true = refl
     both-no false = refl
 
-pub alike-next : (a b : List ℕ) (i : ℕ) (all : Bool) → i < length a → i < length b → agree sameButSign a b ≡ (all && agree sameButSign (drop i a) (drop i b))
-    → agree sameButSign a b ≡ ((all && sameButSign (getD a i 0) (getD b i 0)) && agree sameButSign (drop (i + 1) a) (drop (i + 1) b))
-unfolding agree
-alike-next a b i all h k e =
-    e ∙ ap (λ (c : Bool). all && c) (ap₂ (agree sameButSign) (drop-cons a i 0 h) (drop-cons b i 0 k)) ∙ assoc all
-    ∙ rw (add-one i)
-  where
-    assoc : (c : Bool) → (c && (sameButSign (getD a i 0) (getD b i 0) && agree sameButSign (drop (suc i) a) (drop (suc i) b))) ≡ ((c && sameButSign (getD a i 0) (getD b i 0)) && agree sameButSign (drop (suc i) a) (drop (suc i) b))
-    assoc true = refl
-    assoc false = refl
+-- from i on
+pub rest-is : (l : List ℕ) (i : ℕ) → take (length l - i) (drop i l) ≡ drop i l
+rest-is l i = take-all (length l - i) (drop i l) (omega (arith, length-drop i l))
 
-pub alike-end : (a b : List ℕ) (i : ℕ) (all : Bool) → length a ≤ i → length b ≤ i → agree sameButSign a b ≡ (all && agree sameButSign (drop i a) (drop i b)) → all ≡ agree sameButSign a b
+pub common-le : (s t : List ℕ) → common s t ≤ length s
+unfolding common
+common-le [] t = omega arith
+common-le (x ∷ s) [] = omega arith
+common-le (x ∷ s) (y ∷ t) = byBool (eqb x y)
+    (λ e. let z : common (x ∷ s) (y ∷ t) ≡ suc (common s t) = rw e in omega (arith, common-le s t))
+    (λ e. let z : common (x ∷ s) (y ∷ t) ≡ 0 = rw e in omega arith)
+
+-- the common start decides nothing
+alike-common : (s t : List ℕ) → agree sameButSign s t ≡ agree sameButSign (drop (common s t) s) (drop (common s t) t)
+unfolding agree sameButSign common
+alike-common [] [] = refl
+alike-common [] (y ∷ t) = refl
+alike-common (x ∷ s) [] = refl
+alike-common (x ∷ s) (y ∷ t) = byBool (eqb x y) (λ e. rw e (alike-common s t))
+    (λ e. let z : common (x ∷ s) (y ∷ t) ≡ 0 = rw e in ap (λ k. agree sameButSign (drop k (x ∷ s)) (drop k (y ∷ t))) (sym z))
+
+-- behind it the bytes differ
+common-apart : (s t : List ℕ) → common s t < length s → common s t < length t → eqb (getD s (common s t) 0) (getD t (common s t) 0) ≡ false
+unfolding common
+common-apart [] t h k = absurd (omega arith)
+common-apart (x ∷ s) [] h k = absurd (omega arith)
+common-apart (x ∷ s) (y ∷ t) h k = byBool (eqb x y)
+    (λ e. let z : common (x ∷ s) (y ∷ t) ≡ suc (common s t) = rw e in rw z (common-apart s t (omega arith) (omega arith)))
+    (λ e. let z : common (x ∷ s) (y ∷ t) ≡ 0 = rw e in rw z e)
+
+module _ (a b : List ℕ) (i n : ℕ) (inside : i ≤ length a) (same-length : length a ≡ length b) (so-far : agree sameButSign a b ≡ agree sameButSign (drop i a) (drop i b)) (c : n ≡ common (drop i a) (drop i b)) where
+  after-common : agree sameButSign a b ≡ agree sameButSign (drop (i + n) a) (drop (i + n) b)
+  after-common = so-far ∙ alike-common (drop i a) (drop i b) ∙ ap₂ (agree sameButSign) (ap (λ k. drop k (drop i a)) (sym c) ∙ drop-drop n i a) (ap (λ k. drop k (drop i b)) (sym c) ∙ drop-drop n i b)
+
+  pub alike-whole : length a ≤ i + n → true ≡ agree sameButSign a b
+  unfolding agree
+  alike-whole h = sym (after-common ∙ ap₂ (agree sameButSign) (drop-of-length-le a {i = i + n} h) (drop-of-length-le b {i = i + n} (omega (arith, same-length))))
+
+  module _ (h : i + n < length a) where
+    k : i + n < length b
+    k = omega (arith, same-length)
+
+    pub alike-next : (signByte (getD a (i + n) 0) && signByte (getD b (i + n) 0)) ≡ true → agree sameButSign a b ≡ agree sameButSign (drop (i + n + 1) a) (drop (i + n + 1) b)
+    unfolding agree sameButSign
+    alike-next e =
+        after-common ∙ ap₂ (agree sameButSign) (drop-cons a (i + n) 0 h) (drop-cons b (i + n) 0 k)
+        ∙ rw (e, or-yes (eqb (getD a (i + n) 0) (getD b (i + n) 0)), add-one (i + n))
+      where
+        or-yes : (q : Bool) → (q || true) ≡ true
+        or-yes true = refl
+        or-yes false = refl
+
+    apart : eqb (getD a (i + n) 0) (getD b (i + n) 0) ≡ false
+    apart =
+        ap₂ eqb (ap (λ m. getD a (i + m) 0) c ∙ sym (getD-drop i a (common (drop i a) (drop i b)) 0)) (ap (λ m. getD b (i + m) 0) c ∙ sym (getD-drop i b (common (drop i a) (drop i b)) 0))
+        ∙ common-apart (drop i a) (drop i b) (omega (arith, length-drop i a, c)) (omega (arith, length-drop i b, c, same-length))
+
+    pub alike-other : (signByte (getD a (i + n) 0) && signByte (getD b (i + n) 0)) ≡ false → false ≡ agree sameButSign a b
+    unfolding agree sameButSign
+    alike-other e = sym (after-common ∙ ap₂ (agree sameButSign) (drop-cons a (i + n) 0 h) (drop-cons b (i + n) 0 k) ∙ rw (e, apart))
+
+pub alike-end : (a b : List ℕ) (i : ℕ) → length a ≤ i → length b ≤ i → agree sameButSign a b ≡ agree sameButSign (drop i a) (drop i b) → true ≡ agree sameButSign a b
 unfolding agree
-alike-end a b i all h k e = sym (e ∙ ap (λ (c : Bool). all && c) (ap₂ (agree sameButSign) (drop-of-length-le a h) (drop-of-length-le b k)) ∙ and-yes all)
-  where
-    and-yes : (c : Bool) → (c && true) ≡ c
-    and-yes true = refl
-    and-yes false = refl
+alike-end a b i h k e = sym (e ∙ ap₂ (agree sameButSign) (drop-of-length-le a h) (drop-of-length-le b k))

@@ -45,20 +45,25 @@ fn sign_byte(b: u8) -> bool
     (b == b'+') | (b == b'-')
 }
 
-// Whether a and b are the same but for signs: a flag and no way out of the loop, so many bytes are compared at once.
+// Whether a and b are the same but for signs. It stops at the first other difference.
 pub(crate) fn alike(a: &[u8], b: &[u8]) -> bool
     ensures { λ r. ⌜ r ≡ agree sameButSign (now (a .entry)) (now (b .entry)) ⌝ }
 {
     if a.len() != b.len() {
         return false;
     }
-    let mut all = true;
     let mut i = 0;
     while i < a.len() {
-        all = all & ((a[i] == b[i]) | (sign_byte(a[i]) & sign_byte(b[i])));
-        i += 1;
+        let at = i + wire::common_prefix(&a[i..], &b[i..]);
+        if at >= a.len() {
+            return true;
+        }
+        if !(sign_byte(a[at]) & sign_byte(b[at])) {
+            return false;
+        }
+        i = at + 1;
     }
-    all
+    true
 }
 
 // Where the heads of a and b end, counted from 1, if they are the same; else 0. It stops at the first difference.
