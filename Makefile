@@ -76,9 +76,9 @@ install: tool
 	sed 's|@PREFIX@|$(abspath $(PREFIX))|; s|@VERSION@|$(VERSION)|' tool/offload.pc.in >$(DESTDIR)$(abspath $(PREFIX))/lib/pkgconfig/offload.pc
 
 # The example, built against what `make install` puts in place.
-install-test:
+install-test: library
 	rm -rf target/installed
-	$(MAKE) --no-print-directory install PREFIX=$(CURDIR)/target/installed
+	$(MAKE) --no-print-directory -o library install PREFIX=$(CURDIR)/target/installed
 	tests/install.sh target/installed
 
 # Damaged copies of the samples, given to the tool and to LLVM's tools: how often each answers, refuses, crashes, hangs.
