@@ -13,14 +13,14 @@ TOOL := target/offload
 PREFIX := /usr/local
 LLVM := llvm
 
-.PHONY: test demo prove library harness calls compare tool tool-test example install install-test damage bench compiler tools
+.PHONY: test demo prove library harness calls compare second-test tool tool-test example install install-test damage bench compiler tools
 
 # The proofs and the must-fail edits first, then the library against the second program. `rt ci` removes target/, so its last line is kept outside.
 test: tools
 	rt fmt --check
 	verdict=$$(mktemp); trap 'rm -f "$$verdict"' EXIT; \
 	rt ci | tee "$$verdict"; \
-	$(MAKE) --no-print-directory calls compare tool-test example install-test damage LLVM=; \
+	$(MAKE) --no-print-directory -j2 -O calls compare tool-test example install-test damage LLVM=; \
 	tail -n 1 "$$verdict"
 
 # What the tool does with a real bundle.
@@ -50,10 +50,13 @@ calls: library
 	target/calls-cpp
 
 # The library against the second program: the same rules, written a second time.
-compare: harness
-	$(CARGO) test $(SECOND) --lib
+compare: harness second-test
 	$(CARGO) build $(SECOND)
 	second/target/release/compare
+
+# The second program's own tests.
+second-test:
+	$(CARGO) test $(SECOND) --lib
 
 # The tool, and a test that uses it as a person would.
 tool: library
@@ -76,9 +79,9 @@ install: tool
 	sed 's|@PREFIX@|$(abspath $(PREFIX))|; s|@VERSION@|$(VERSION)|' tool/offload.pc.in >$(DESTDIR)$(abspath $(PREFIX))/lib/pkgconfig/offload.pc
 
 # The example, built against what `make install` puts in place.
-install-test: library
+install-test: tool
 	rm -rf target/installed
-	$(MAKE) --no-print-directory -o library install PREFIX=$(CURDIR)/target/installed
+	$(MAKE) --no-print-directory -o library -o tool install PREFIX=$(CURDIR)/target/installed
 	tests/install.sh target/installed
 
 # Damaged copies of the samples, given to the tool and to LLVM's tools: how often each answers, refuses, crashes, hangs.
