@@ -27,10 +27,6 @@ use Rattle.bundle.proofs.Theorems.{check-exact}
 
 -- ---- a call that writes
 
-pub output-go : (t : Stop) (bytes out : List ℕ) → t .number ≡ 0 → output t bytes out ≡ over bytes out
-unfolding output
-output-go t bytes out e = rw (e, output)
-
 pub output-stop : (t : Stop) (bytes out : List ℕ) (k : ℕ) → t .number ≡ suc k → output t bytes out ≡ out
 unfolding output
 output-stop t bytes out k e = rw (e, output)

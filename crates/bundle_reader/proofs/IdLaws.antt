@@ -1,4 +1,4 @@
--- The entry_id functions on what the code holds: room of 256 bytes, and canonical forms. Assumes nothing.
+-- The functions of `canonical_form` on what the code holds: room of 256 bytes, and canonical forms. Assumes nothing.
 use Prim.Native.Nat.{ℕ, _+_, _*_, _<_, _≤_}
 use native.Mathlib.Omega.{arith}
 use mathlib.Core.Path.{_≡_, refl, sym, ap, ap₂, _∙_}

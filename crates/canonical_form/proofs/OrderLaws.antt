@@ -12,7 +12,7 @@ use lib.ListN.{length, getD, take, drop, set, length-append, length-take, length
 use lib.Seq.{take-suc, take-all, take-suc-set, take-set-le, take-set-lt, drop-set-lt, getD-set-same, getD-take, drop-cons, split-at, append-snoc, length-take-le, take-at, drop-at, getD-at}
 use Rattle.wire.specs.Order.{insertBy, risingBy, sortBy, distinctBy}
 use Rattle.wire.specs.Lists.{any}
-use Rattle.wire.proofs.Bools.{cases, cond-ind, is-true, is-false, of-true, and-l, and-r}
+use Rattle.wire.proofs.Bools.{cases, cond-ind, is-true, is-false, of-true, and-l, and-r, and-true}
 use Rattle.wire.proofs.ByteLaws.{before-irrefl, before-trans, same-eq, same-common, same-length, ne-same}
 use Rattle.wire.proofs.SortLaws.{distinct-rising, rising-distinct, sort-any}
 use Rattle.wire.specs.Bytes.{before, same, common}
@@ -108,10 +108,6 @@ module _ (x : List ℕ) (t : List ℕ) (i : ℕ) where
       let p : placed x (set u (suc i) f) (suc i) ≡ take i t ++ g ∷ [] ++ insertBy (nameOf x) f (drop (suc (suc i)) t) = rw (a, b, c) in
       let q : placed x t i ≡ take i t ++ (g ∷ insertBy (nameOf x) f (drop (suc (suc i)) t)) = rw (next-two h, e) in
       p ∙ append-snoc (take i t) g (insertBy (nameOf x) f (drop (suc (suc i)) t)) ∙ sym q
-
-and-true : (b : Bool) → (b && true) ≡ b
-and-true true = refl
-and-true false = refl
 
 -- the list after the first elements are put in order
 module _ (x : List ℕ) (s t : List ℕ) (k : ℕ) (h : k < length s) (e : t ≡ take (suc k) s ++ sortBy (nameOf x) (drop (suc k) s)) where

@@ -12,7 +12,7 @@ use Rattle.wire.specs.Lists.{agree, any, every}
 use Rattle.entry_id.specs.Text.{splitOn, onFirst, notColon}
 use Rattle.wire.specs.Bytes.{same, common}
 use Rattle.entry_id.proofs.TextLaws.{split-last, split-skip, split-some}
-use Rattle.wire.proofs.Bools.{cases, byBool}
+use Rattle.wire.proofs.Bools.{cases, byBool, or-true, and-false}
 use Rattle.entry_id.specs.Meaning.{piecesOf}
 use Rattle.entry_id.proofs.ReadBack.{no-colon}
 use Rattle.canonical_form.specs.Scan.{part, Run, piecesAt, endsAt, MeetIs}
@@ -164,11 +164,7 @@ module _ (a b : List ℕ) (r : ℕ) (m : MeetIs a b r) where
 
 pub mixed-alike : (a b : List ℕ) → agree sameButSign a b ≡ true → false ≡ mixedText a b
 unfolding mixedText
-mixed-alike a b e = rw e (both-no (same (headOf a) (headOf b)))
-  where
-    both-no : (c : Bool) → false ≡ (c && false)
-    both-no true = refl
-    both-no false = refl
+mixed-alike a b e = rw e (sym (and-false (same (headOf a) (headOf b))))
 
 -- ---- two texts, the same but for signs up to i
 
@@ -177,11 +173,7 @@ unfolding agree
 alike-lengths [] [] h = absurd (h refl)
 alike-lengths [] (y ∷ b) h = refl
 alike-lengths (x ∷ a) [] h = refl
-alike-lengths (x ∷ a) (y ∷ b) h = rw (alike-lengths a b (λ (e : length a ≡ length b). h (ap suc e))) (both-no (sameButSign x y))
-  where
-    both-no : (c : Bool) → (c && false) ≡ false
-    both-no true = refl
-    both-no false = refl
+alike-lengths (x ∷ a) (y ∷ b) h = rw (alike-lengths a b (λ (e : length a ≡ length b). h (ap suc e))) (and-false (sameButSign x y))
 
 -- from i on
 pub rest-is : (l : List ℕ) (i : ℕ) → take (length l - i) (drop i l) ≡ drop i l
@@ -229,11 +221,7 @@ module _ (a b : List ℕ) (i n : ℕ) (inside : i ≤ length a) (same-length : l
     unfolding agree sameButSign
     alike-next e =
         after-common ∙ ap₂ (agree sameButSign) (drop-cons a (i + n) 0 h) (drop-cons b (i + n) 0 k)
-        ∙ rw (e, or-yes (eqb (getD a (i + n) 0) (getD b (i + n) 0)), add-one (i + n))
-      where
-        or-yes : (q : Bool) → (q || true) ≡ true
-        or-yes true = refl
-        or-yes false = refl
+        ∙ rw (e, or-true (eqb (getD a (i + n) 0) (getD b (i + n) 0)), add-one (i + n))
 
     apart : eqb (getD a (i + n) 0) (getD b (i + n) 0) ≡ false
     apart =

@@ -13,7 +13,7 @@ use Rattle.wire.proofs.ByteLaws.{same-refl, same-eq}
 use Rattle.wire.proofs.Bools.{bool-ext, byBool, of-true}
 use Rattle.entry_id.specs.Meaning.{piecesOf, piece, sixFields, canonicalOf, meaning, valid, canon}
 use Rattle.entry_id.specs.Compare.{sameTarget, compatible, sameNames, sameMeaning, mixed}
-use Rattle.entry_id.proofs.ReadBack.{Proper, parts, proper-meaning, canon-is, canon-valid, canon-meaning, head-write, pieces-back, same-canon}
+use Rattle.entry_id.proofs.ReadBack.{Proper, parts, proper-meaning, canon-is, canon-valid, canon-meaning, head-write, same-canon}
 use Rattle.entry_id.proofs.FeatureLaws.{sameMeaning-eq, eq-sameMeaning}
 use Rattle.entry_id.proofs.CompareLaws.{compatible-pieces, sameTarget-heads}
 use Rattle.entry_id.specs.Canonical.{headOf, within, sameButSign, compatibleText, mixedText}
@@ -26,9 +26,6 @@ module _ (x : List ℕ) (v : T (valid x)) where
   pub head-canon : headOf (canon x) ≡ joinWith (code "-") (sixFields (meaning x))
   unfolding headOf
   head-canon = ap (λ l. getD (splitOn 58 l) 0 []) (canon-is x v) ∙ head-write (meaning x) good
-
-  pieces-canon : piecesOf (canon x) ≡ map piece (meaning x .features)
-  pieces-canon = ap piecesOf (canon-is x v) ∙ pieces-back (meaning x) good
 
 module _ (x y : List ℕ) (v : T (valid x)) (w : T (valid y)) where
   pub heads-sameTarget : same (headOf (canon x)) (headOf (canon y)) ≡ sameTarget (meaning x) (meaning y)

@@ -9,29 +9,13 @@ use lib.Dec.{T, eqb, eqb→eq}
 use borrow.Author.Tests.{eq-eqb}
 use Rattle.wire.specs.Bytes.{same, empty}
 use Rattle.wire.specs.Lists.{agree, every}
-use Rattle.wire.proofs.Bools.{and-l, and-r, or-t, is-false, clash}
+use Rattle.wire.proofs.Bools.{or-true, or-false, and-false, and-assoc, and-l, and-r, or-t, is-false, clash}
 use Rattle.entry_id.specs.Text.{joinWith}
 use Rattle.entry_id.specs.Meaning.{Feature, piece, sign, named, nameByte}
 use Rattle.entry_id.specs.Compare.{sameNames}
 use Rattle.entry_id.specs.Canonical.{signByte, sameButSign}
 
 -- ---- bytes
-
-or-true : (b : Bool) → (b || true) ≡ true
-or-true true = refl
-or-true false = refl
-
-or-false : (b : Bool) → (b || false) ≡ b
-or-false true = refl
-or-false false = refl
-
-and-false : (b : Bool) → (b && false) ≡ false
-and-false true = refl
-and-false false = refl
-
-and-assoc : (a b c : Bool) → (a && (b && c)) ≡ ((a && b) && c)
-and-assoc true b c = refl
-and-assoc false b c = refl
 
 name-no-sign : (x : ℕ) → T (nameByte x) → signByte x ≡ false
 unfolding nameByte signByte
@@ -65,10 +49,7 @@ names-next [] (d ∷ m) x y s t u v p q =
     rw (apart x d p e, e, and-false (signByte x))
 names-next (c ∷ n) [] x y s t u v p q =
     let e = name-no-sign c (and-l (nameByte c) (every nameByte n) u) in
-    rw (apart-sym c y e q, e)
-  where
-    apart-sym : (c y : ℕ) → signByte c ≡ false → signByte y ≡ true → eqb c y ≡ false
-    apart-sym c y e q = is-false (eqb c y) (λ z. clash (signByte y) q (ap signByte (sym (eqb→eq c y z)) ∙ e))
+    rw (is-false (eqb c y) (λ z. clash (signByte y) q (ap signByte (sym (eqb→eq c y z)) ∙ e)), e)
 names-next (c ∷ n) (d ∷ m) x y s t u v p q =
     rw (name-no-sign c (and-l (nameByte c) (every nameByte n) u), or-false (eqb c d))
     (ap (λ (z : Bool). eqb c d && z) (names-next n m x y s t (and-r (nameByte c) (every nameByte n) u) (and-r (nameByte d) (every nameByte m) v) p q)

@@ -41,6 +41,26 @@ or-neither false b e = (refl, e)
 pub neither-or : (a b : Bool) → a ≡ false → b ≡ false → (a || b) ≡ false
 neither-or a b p q = rw (p, q)
 
+pub or-true : (a : Bool) → (a || true) ≡ true
+or-true true = refl
+or-true false = refl
+
+pub or-false : (a : Bool) → (a || false) ≡ a
+or-false true = refl
+or-false false = refl
+
+pub and-true : (a : Bool) → (a && true) ≡ a
+and-true true = refl
+and-true false = refl
+
+pub and-false : (a : Bool) → (a && false) ≡ false
+and-false true = refl
+and-false false = refl
+
+pub and-assoc : (a b c : Bool) → (a && (b && c)) ≡ ((a && b) && c)
+and-assoc true b c = refl
+and-assoc false b c = refl
+
 pub not-no : (a : Bool) → not a ≡ false → a ≡ true
 not-no true e = refl
 not-no false e = clash true refl e

@@ -1,4 +1,4 @@
--- `entry_id::compatible` meets its contract. Assumes nothing.
+-- `canonical_form::compatible` meets its contract. Assumes nothing.
 use mathlib.Core.Path.{_∙_}
 use Rattle.canonical_form.proofs.TestLaws.{compatible-yes, compatible-no}
 use native.Mathlib.Omega.{arith}

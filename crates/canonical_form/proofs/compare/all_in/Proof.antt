@@ -1,4 +1,4 @@
--- `entry_id::all_in` meets its contract. The loop's invariant: the pieces that are left decide. Assumes nothing.
+-- `canonical_form::all_in` meets its contract. The loop's invariant: the pieces that are left decide. Assumes nothing.
 use Prim.Native.Nat.{suc, _+_, _-_}
 use mathlib.Core.Path.{_≡_, refl, sym, _∙_}
 use native.Mathlib.Numerals.{add-one}

@@ -1,4 +1,4 @@
--- `entry_id::has_piece` meets its contract. The loop's invariant: the pieces that are left decide. Assumes nothing.
+-- `canonical_form::has_piece` meets its contract. The loop's invariant: the pieces that are left decide. Assumes nothing.
 use Prim.Native.Nat.{suc, _+_, _-_}
 use mathlib.Core.Path.{_≡_, refl, sym, _∙_}
 use native.Mathlib.Numerals.{add-one}

@@ -1,4 +1,4 @@
--- `entry_id::meet` meets its contract. The loop's invariant: no ':' so far, and what is left of the two decides. Assumes nothing.
+-- `canonical_form::meet` meets its contract. The loop's invariant: no ':' so far, and what is left of the two decides. Assumes nothing.
 use Prim.Native.Nat.{_+_, _≤_, _-_}
 use mathlib.Core.Path.{_≡_, refl, sym, _∙_}
 use borrow.Author.Tests.{not-true, not-false}

@@ -1,4 +1,4 @@
--- `entry_id::name` meets its contract. Assumes nothing.
+-- `canonical_form::name` meets its contract. Assumes nothing.
 use native.Mathlib.Numerals.{add-one}
 use borrow.Author.Tests.{lt-ltb, le-ltb}
 use Rattle.canonical_form.specs.Scan.{part}

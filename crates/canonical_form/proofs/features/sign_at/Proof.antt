@@ -1,4 +1,4 @@
--- `entry_id::sign_at` meets its contract. Assumes nothing.
+-- `canonical_form::sign_at` meets its contract. Assumes nothing.
 use mathlib.Core.Path.{_≡_, sym, _∙_, ap, subst}
 use mathlib.Core.Bool.{true}
 use native.Mathlib.Numerals.{add-one}

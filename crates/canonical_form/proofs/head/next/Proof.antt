@@ -1,4 +1,4 @@
--- `entry_id::next` meets its contract. Assumes nothing.
+-- `canonical_form::next` meets its contract. Assumes nothing.
 use Prim.Native.Nat.{_+_, suc}
 use Rattle.entry_id.specs.Meaning.{fieldByte}
 use Rattle.canonical_form.specs.Scan.{Run}

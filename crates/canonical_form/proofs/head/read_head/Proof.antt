@@ -1,4 +1,4 @@
--- `entry_id::read_head` meets its contract. Assumes nothing.
+-- `canonical_form::read_head` meets its contract. Assumes nothing.
 use Prim.Native.Nat.{suc, _+_}
 use mathlib.Core.Path.{_≡_, sym, _∙_}
 use native.Mathlib.Numerals.{add-one}

@@ -1,4 +1,4 @@
--- `entry_id::triple` meets its contract. Assumes nothing.
+-- `canonical_form::triple` meets its contract. Assumes nothing.
 use mathlib.Core.Path.{sym, _∙_}
 use lib.Seq.{length-take-le}
 use borrow.Author.Tests.{not-true, not-false}

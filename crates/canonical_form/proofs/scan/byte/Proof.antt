@@ -1,4 +1,4 @@
--- `entry_id::byte` meets its contract. Assumes nothing.
+-- `canonical_form::byte` meets its contract. Assumes nothing.
 use lib.ListN.{List·getD-eq-default}
 use mathlib.Core.Path.{sym}
 use borrow.Author.Needs.{needs}

@@ -1,4 +1,4 @@
--- `entry_id::ends` meets its contract. Assumes nothing.
+-- `canonical_form::ends` meets its contract. Assumes nothing.
 use Rattle.canonical_form.specs.Scan.{endsAt}
 use borrow.Author.Tests.{lt-ltb, le-ltb}
 use borrow.Author.Needs.{needs}

@@ -1,4 +1,4 @@
--- `entry_id::run_end` meets its contract. The loop's invariant: every byte so far passes. Assumes nothing.
+-- `canonical_form::run_end` meets its contract. The loop's invariant: every byte so far passes. Assumes nothing.
 use Prim.Native.Nat.{_≤_, _-_}
 use lib.ListN.{length}
 use lib.Dec.{T}
