@@ -13,14 +13,14 @@ TOOL := target/offload
 PREFIX := /usr/local
 LLVM := llvm
 
-.PHONY: test demo prove library harness calls compare second-test tool tool-test example install install-test damage bench compiler tools
+.PHONY: test demo prove library harness calls stack compare second-test tool tool-test example install install-test damage bench compiler tools
 
 # The proofs and the must-fail edits first, then the library against the second program. `rt ci` removes target/, so its last line is kept outside.
 test: tools
 	rt fmt --check
 	verdict=$$(mktemp); trap 'rm -f "$$verdict"' EXIT; \
 	rt ci | tee "$$verdict"; \
-	$(MAKE) --no-print-directory -j2 -O calls compare tool-test example install-test damage LLVM=; \
+	$(MAKE) --no-print-directory -j2 -O calls stack compare tool-test example install-test damage LLVM=; \
 	tail -n 1 "$$verdict"
 
 # What the tool does with a real bundle.
@@ -48,6 +48,11 @@ calls: library
 	target/calls-c
 	g++ -x c++ $(STRICT) -o target/calls-cpp tests/calls.c -x none $(LIBRARY)
 	target/calls-cpp
+
+# The stack that each call takes.
+stack: library
+	$(POSIX) -pthread -o target/stack tests/stack.c $(LIBRARY)
+	target/stack samples/bundles/three-cards.bundle
 
 # The library against the second program: the same rules, written a second time.
 compare: harness second-test
