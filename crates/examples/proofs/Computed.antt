@@ -19,7 +19,7 @@ use Rattle.bundle.specs.Normal.{normal, normalLength}
 use Rattle.offload_binary.specs.Lists as lists
 use Rattle.offload_binary.specs.Binary as binary
 use Rattle.offload_binary.specs.Contents as contents
-use Rattle.offload_binaries.specs.Reader as reader
+use Rattle.offload_binary.specs.Reader as reader
 use Rattle.examples.specs.Examples.{Examples}
 
 pub examples : Examples

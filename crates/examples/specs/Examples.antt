@@ -15,7 +15,7 @@ use Rattle.bundle.specs.Layout.{bundle}
 use Rattle.bundle.specs.Normal.{normal, normalLength}
 use Rattle.offload_binary.specs.Binary.{refused, binaryAt}
 use Rattle.offload_binary.specs.Contents.{Contents, written}
-use Rattle.offload_binaries.specs.Reader.{answer}
+use Rattle.offload_binary.specs.Reader.{answer}
 
 -- ---- the bytes that the examples speak of
 

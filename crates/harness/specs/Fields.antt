@@ -6,9 +6,9 @@ use lib.Dec.{eqb}
 use lib.ListN.{getD}
 use Rattle.offload_binary.specs.Binary.{noPair}
 use Rattle.bundle.specs.declared.Written as B
-use Rattle.offload_binary_writer.specs.declared.Written as W
-use Rattle.offload_binary_writer.specs.declared.Tags.{Tags}
-use Rattle.offload_binaries.specs.declared.Step.{Step}
+use Rattle.offload_binary.specs.declared.Written as W
+use Rattle.offload_binary.specs.declared.Tags.{Tags}
+use Rattle.offload_binary.specs.declared.Step.{Step}
 
 -- of what a writer returns: 0 its number, 1 its place, any other its length
 unfoldable pub field : ℕ → ℕ → ℕ → ℕ → ℕ

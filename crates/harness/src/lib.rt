@@ -1,17 +1,17 @@
 // The reader and both writers as C calls, for the comparison with the second program: include/offload.h has none of them.
 use bundle::EntryRecord;
-use offload_binaries::Cursor;
 use offload_binaries::Reader;
-use offload_binaries::Step;
+use offload_binary::Cursor;
+use offload_binary::Step;
 use offload_binary::StringPair;
-use offload_binary_writer::Tags;
+use offload_binary::Tags;
 ghost use mathlib.Core.Path.{_≡_};
 ghost use Prim.Native.Nat.{_%_};
 ghost use lib.ListN.{length};
 ghost use Rattle.entry_id.specs.Rules.{idRules};
 ghost use Rattle.bundle.specs.Writer.{write, writtenTo};
-ghost use Rattle.offload_binaries.specs.Reader.{next};
-ghost use Rattle.offload_binary_writer.specs.Writer.{write as writeBinary};
+ghost use Rattle.offload_binary.specs.Reader.{next};
+ghost use Rattle.offload_binary.specs.Writer.{write as writeBinary};
 ghost use Rattle.harness.specs.Fields.{field, bundleField, binaryField, tags, stepNumbers};
 
 // Number 0, 1 or 2 of what a writer returns: the number, the place or the length.
@@ -47,7 +47,7 @@ pub extern "C" fn offload_write_bundle_field(
     bundle_field(normal_form::write_bundle(records, ids, images, out), k)
 }
 
-fn binary_field(written: offload_binary_writer::Written, k: usize) -> u64
+fn binary_field(written: offload_binary::Written, k: usize) -> u64
     ensures { λ r. ⌜ r ≡ binaryField k written ⌝ }
 {
     field_of(written.number, written.place, written.len, k)

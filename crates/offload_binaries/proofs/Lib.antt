@@ -1,5 +1,1 @@
-pub mod ReaderLaws
 pub mod NextLaws
-pub mod Sequences
-pub mod Theorems
-pub mod ExamplesProof

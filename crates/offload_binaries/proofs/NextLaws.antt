@@ -8,12 +8,12 @@ use borrow.Author.Tests.{lt-ltb, le-ltb, eq-eqb, ne-eqb, le-leb, lt-leb}
 use Rattle.wire.specs.Stop.{_⨾_, stopIf, stopWhen}
 use Rattle.wire.specs.Limit.{limit}
 use Rattle.offload_binary.specs.Binary.{handed, refused, answerBy, binaryAt, sizeOf, binaryStop, binary}
-use Rattle.offload_binaries.specs.Reader.{past, nextStop, next}
-use Rattle.offload_binaries.specs.declared.Cursor.{Cursor}
+use Rattle.offload_binary.specs.Reader.{past, nextStop, next}
+use Rattle.offload_binary.specs.declared.Cursor.{Cursor}
 use Rattle.offload_binary.specs.declared.Answer.{Answer}
-use Rattle.offload_binaries.specs.declared.Step.{Step}
+use Rattle.offload_binary.specs.declared.Step.{Step}
 use Rattle.offload_binary.proofs.BinaryLaws.{sized, length-own, size-is}
-use Rattle.offload_binaries.proofs.ReaderLaws.{byNat, next-go, next-stop}
+use Rattle.offload_binary.proofs.ReaderLaws.{byNat, next-go, next-stop}
 
 -- ---- one call
 

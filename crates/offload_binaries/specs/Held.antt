@@ -1,6 +1,6 @@
 -- The reader that holds the lent bytes: what a call answers, and the reader after it. Definitions only.
 use denote.Ref.{now}
-use Rattle.offload_binaries.specs.Reader.{next}
+use Rattle.offload_binary.specs.Reader.{next}
 use Rattle.offload_binary.specs.declared.Answer.{Answer}
 use Rattle.offload_binaries.specs.declared.Reader.{Reader}
 

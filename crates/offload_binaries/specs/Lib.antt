@@ -1,4 +1,1 @@
-pub mod Reader
 pub mod Held
-pub mod Theorems
-pub mod Examples

@@ -1,26 +1,16 @@
 // LLVM's offload binaries laid end to end: a cursor that reads one after another, and a reader that holds the bytes.
 use offload_binary::Answer;
+use offload_binary::Cursor;
+use offload_binary::Step;
 ghost use mathlib.Core.Path.{_≡_};
 ghost use Rattle.offload_binary.specs.Binary.{refused};
-ghost use Rattle.offload_binaries.specs.Reader.{opened, next};
+ghost use Rattle.offload_binary.specs.Reader.{opened, next};
 ghost use Rattle.offload_binaries.specs.Held.{answered, moved};
-
-// Where a reader stands: the first byte not yet read, and how many binaries it has handed back.
-pub struct Cursor {
-    pub position: usize,
-    pub taken: usize,
-}
-
-// What a call answers, and where the reader then stands.
-pub struct Step {
-    pub answer: Answer,
-    pub cursor: Cursor,
-}
 
 fn stopped(number: usize, cursor: Cursor) -> Step
     ensures { λ r. ⌜ r ≡ record { answer = refused number (cursor .position); cursor = cursor } ⌝ }
 {
-    let answer = offload_binary::refused(number, cursor.position);
+    let answer = offload_binary_reader::refused(number, cursor.position);
     Step { answer, cursor }
 }
 
@@ -39,7 +29,7 @@ pub fn next_at(s: &[u8], cursor: Cursor) -> Step
     if 64 <= taken {
         return stopped(18, cursor);
     }
-    let answer = offload_binary::binary_at(s, position);
+    let answer = offload_binary_reader::binary_at(s, position);
     if answer.number != 0 {
         return Step { answer, cursor };
     }

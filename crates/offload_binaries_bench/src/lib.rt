@@ -1,7 +1,7 @@
 // The reader as a C call, for `make bench`: include/offload.h has none.
-use offload_binaries::Cursor;
+use offload_binary::Cursor;
 ghost use mathlib.Core.Path.{_≡_};
-ghost use Rattle.offload_binaries.specs.Reader.{next};
+ghost use Rattle.offload_binary.specs.Reader.{next};
 
 // The size of the binary that a reader hands back next, or 0.
 #[no_mangle]

@@ -1,4 +1,4 @@
--- Laws of one binary: strings, and what the tests 13 to 17 leave where they do not apply. Assumes nothing.
+-- Laws of one binary: parts, and what the tests 13 to 17 leave where they do not apply. Assumes nothing.
 use Prim.Native.Nat.{ℕ, _+_, _-_, _≤_}
 use native.Mathlib.Omega.{arith}
 use mathlib.Core.Path.{_≡_, refl, sym, ap, _∙_}

@@ -1,5 +1,5 @@
 -- What a binary holds, and the bytes that the binary writer writes for it. Definitions only.
-use Prim.Native.Nat.{ℕ, zero, _+_, _*_, _-_, _/_}
+use Prim.Native.Nat.{ℕ, _+_, _*_, _-_, _/_}
 use mathlib.Core.Bool.{Bool, _||_}
 use mathlib.Core.List.{List, [], _∷_, _++_, map}
 use lib.ListN.{length, getD, take, replicate}

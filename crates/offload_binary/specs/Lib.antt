@@ -2,4 +2,9 @@ pub mod Lists
 pub mod Binary
 pub mod Contents
 pub mod Theorems
-pub mod Code
+pub mod Reader
+pub mod SequenceTheorems
+pub mod Writer
+pub mod Arrays
+pub mod WriterTheorems
+pub mod Examples

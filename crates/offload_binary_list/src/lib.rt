@@ -1,14 +1,14 @@
 // The binary writer over a lent list of pairs.
 use offload_binary::Part;
 use offload_binary::StringPair;
-use offload_binary_writer::Tags;
-use offload_binary_writer::Written;
+use offload_binary::Tags;
+use offload_binary::Written;
 ghost use mathlib.Core.Path.{_≡_};
 ghost use Prim.Native.Nat.{_<_};
 ghost use lib.ListN.{length, getD, set};
 ghost use Rattle.offload_binary.specs.Binary.{noPair};
-ghost use Rattle.offload_binary_writer.specs.Writer.{write};
-ghost use Rattle.offload_binary_list.specs.Code.{gathered};
+ghost use Rattle.offload_binary.specs.Writer.{write};
+ghost use Rattle.offload_binary.specs.Arrays.{gathered};
 
 // How many pairs the list has.
 fn pair_count(pairs: &[StringPair]) -> usize
@@ -45,7 +45,7 @@ fn put_pair(a: [StringPair; 32], i: usize, x: StringPair) -> [StringPair; 32]
 fn gather(pairs: &[StringPair]) -> [StringPair; 32]
     ensures { λ r. ⌜ r ≡ gathered (now (pairs .entry)) ⌝ }
 {
-    let mut a = offload_binary::no_pairs();
+    let mut a = offload_binary_parts::no_pairs();
     let mut i = 0;
     while i < 32 {
         a = put_pair(a, i, pair_or_none(pairs, i));

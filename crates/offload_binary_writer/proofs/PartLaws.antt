@@ -9,7 +9,7 @@ use borrow.Author.Tests.{lt-ltb, le-ltb}
 use Rattle.offload_binary.specs.Binary.{bytesAt, run, ended}
 use Rattle.offload_binary.specs.declared.Part.{Part}
 use Rattle.offload_binary.specs.declared.StringPair.{StringPair}
-use Rattle.offload_binary_writer.specs.Writer.{badPart, badPair}
+use Rattle.offload_binary.specs.Writer.{badPart, badPair}
 
 module _ (buf : List ℕ) (p : Part) where
   pub part-outside : ltb (length buf) (p .start + p .len) ≡ true → true ≡ badPart buf p

@@ -13,12 +13,12 @@ use Rattle.offload_binary.specs.Contents.{KeyText, Contents, keyText, fieldByte
 use Rattle.offload_binary.specs.declared.StringPair.{StringPair}
 use Rattle.wire.proofs.TabLaws.{length-tab}
 use Rattle.offload_binary.proofs.WrittenLaws.{up8-le, length-offsets}
-use Rattle.offload_binary_writer.specs.Writer.{given}
-use Rattle.offload_binary_writer.specs.Code.{textIn, LayoutIs, headerBytes, entryFields}
-use Rattle.offload_binary_writer.specs.Writer.{listed}
-use Rattle.offload_binary_writer.specs.declared.Tags.{Tags}
+use Rattle.offload_binary.specs.Writer.{given, listed}
+use Rattle.offload_binary.specs.Arrays.{textIn}
+use Rattle.offload_binary_writer.specs.Code.{LayoutIs, headerBytes, entryFields}
+use Rattle.offload_binary.specs.declared.Tags.{Tags}
 use Rattle.offload_binary_writer.specs.declared.Layout.{Layout}
-use Rattle.offload_binary_writer.proofs.TextLaws.{length-given, texts-are}
+use Rattle.offload_binary.proofs.TextLaws.{length-given, texts-are}
 use Rattle.offload_binary_writer.proofs.WriteLaws.{length-header, length-entry}
 
 pub up8-top : (n : ℕ) → up8 n ≤ n + 7

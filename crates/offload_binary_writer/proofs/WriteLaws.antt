@@ -14,8 +14,8 @@ use Rattle.offload_binary.specs.Contents.{Field, _∶_, fieldBytes, stringBytes
 use Rattle.wire.proofs.TabLaws.{length-tab}
 use Rattle.offload_binary.proofs.WrittenLaws.{widths, length-fields, length-offsets}
 use Rattle.offload_binary_writer.specs.Code.{headerBytes, entryFields}
-use Rattle.offload_binary_writer.specs.declared.Tags.{Tags}
-use Rattle.offload_binary_writer.proofs.TextLaws.{strings-more, length-more, offsets-more}
+use Rattle.offload_binary.specs.declared.Tags.{Tags}
+use Rattle.offload_binary.proofs.TextLaws.{strings-more, length-more, offsets-more}
 
 -- ---- numbers put one after another
 

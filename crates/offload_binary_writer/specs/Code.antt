@@ -1,24 +1,13 @@
 -- What the private functions of the writer ensure. No public promise rests on these. Definitions only.
-use Prim.Native.Nat.{ℕ, _+_, _*_, _/_, _%_}
+use Prim.Native.Nat.{ℕ, _+_, _*_}
 use mathlib.Core.Path.{_≡_}
-use mathlib.Core.Bool.{cond}
 use mathlib.Core.List.{List, [], _∷_, _++_}
-use lib.ListN.{length, getD}
-use lib.Dec.{eqb}
+use lib.ListN.{length}
 use Rattle.wire.specs.Lists.{tab}
-use Rattle.offload_binary.specs.Binary.{magic, bytesAt, noPair}
+use Rattle.offload_binary.specs.Binary.{magic}
 use Rattle.offload_binary.specs.Contents.{Field, _∶_, fieldBytes, stringBytes, up8}
-use Rattle.offload_binary.specs.declared.Part.{Part}
-use Rattle.offload_binary.specs.declared.StringPair.{StringPair}
-use Rattle.offload_binary_writer.specs.declared.Tags.{Tags}
+use Rattle.offload_binary.specs.declared.Tags.{Tags}
 use Rattle.offload_binary_writer.specs.declared.Layout.{Layout}
-
--- the keys and texts of an array of pairs, one after another: their parts, and their bytes
-unfoldable pub partIn : List StringPair → ℕ → Part
-partIn pairs j = cond (eqb (j % 2) 0) (getD pairs (j / 2) noPair .key) (getD pairs (j / 2) noPair .text)
-
-unfoldable pub textIn : List ℕ → List StringPair → ℕ → List ℕ
-textIn buf pairs j = bytesAt buf (partIn pairs j)
 
 -- where the parts of a binary stand: n pairs with the strings of f, one after another, and an image of `len` bytes
 pub record LayoutIs (f : ℕ → List ℕ) (n len : ℕ) (at : Layout) : Type 0 where

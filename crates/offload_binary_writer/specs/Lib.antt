@@ -1,3 +1,1 @@
-pub mod Writer
-pub mod Theorems
 pub mod Code

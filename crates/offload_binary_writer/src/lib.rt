@@ -1,6 +1,8 @@
 // Writes one of LLVM's offload binaries over a lent output.
 use offload_binary::Part;
 use offload_binary::StringPair;
+use offload_binary::Tags;
+use offload_binary::Written;
 ghost use mathlib.Core.Path.{_≡_};
 ghost use mathlib.Core.List.{[], _∷_, _++_};
 ghost use Prim.Native.Nat.{ℕ, _+_, _*_, _<_, _≤_};
@@ -8,22 +10,9 @@ ghost use lib.ListN.{length, replicate};
 ghost use Rattle.wire.specs.Bytes.{overwrite};
 ghost use Rattle.wire.specs.Lists.{tab};
 ghost use Rattle.offload_binary.specs.Contents.{fieldBytes, offsets, stringBytes, up8, written};
-ghost use Rattle.offload_binary_writer.specs.Writer.{listed, badPart, badPair, badPairs, given, write};
-ghost use Rattle.offload_binary_writer.specs.Code.{partIn, textIn, LayoutIs, headerBytes, entryFields};
-
-// The kinds and the flags of a binary.
-pub struct Tags {
-    pub image_kind: u64,
-    pub offload_kind: u64,
-    pub flags: u32,
-}
-
-// OK and the length written; or a refusal, place 0, and nothing written.
-pub struct Written {
-    pub number: usize,
-    pub place: usize,
-    pub len: usize,
-}
+ghost use Rattle.offload_binary.specs.Writer.{listed, badPart, badPair, badPairs, given, write};
+ghost use Rattle.offload_binary.specs.Arrays.{partIn, textIn};
+ghost use Rattle.offload_binary_writer.specs.Code.{LayoutIs, headerBytes, entryFields};
 
 // Where the parts of a binary stand: its strings from `strings` to `end`, its image from `image` to `stop`.
 struct Layout {
@@ -40,14 +29,14 @@ fn bad_part(buf: &[u8], part: Part) -> bool
 {
     let start = part.start;
     let len = part.len;
-    if offload_binary::passes(buf.len(), start, len) {
+    if offload_binary_parts::passes(buf.len(), start, len) {
         return true;
     }
     if 256 < len {
         return true;
     }
-    let text = offload_binary::bytes_at(buf, part);
-    offload_binary::before_zero(text) < text.len()
+    let text = offload_binary_parts::bytes_at(buf, part);
+    offload_binary_parts::before_zero(text) < text.len()
 }
 
 // 16 of a pair.
@@ -81,7 +70,7 @@ fn text_in<'a>(buf: &'a [u8], pairs: [StringPair; 32], j: usize) -> &'a [u8]
     requires { ⌜ j < 64 ⌝ }
     ensures { λ r. ⌜ now r ≡ textIn (now (buf .entry)) pairs j ⌝ }
 {
-    offload_binary::bytes_at(buf, part_in(pairs, j))
+    offload_binary_parts::bytes_at(buf, part_in(pairs, j))
 }
 
 // How long the first m strings are with their zero bytes.
@@ -116,7 +105,7 @@ fn put_zeros(out: &mut [u8], at: usize, n: usize)
     wire::copy_at(
         out,
         at,
-        offload_binary::bytes_at(&zeros, Part { start: 0, len: n }),
+        offload_binary_parts::bytes_at(&zeros, Part { start: 0, len: n }),
     );
 }
 
@@ -134,7 +123,7 @@ fn write_header(out: &mut [u8], size: usize)
     requires { ⌜ 72 ≤ length (now out) ⌝ }
     ensures { λ _. ⌜ now (out .exit) ≡ overwrite (now (out .entry)) 0 (headerBytes size) ⌝ }
 {
-    let magic = offload_binary::MAGIC;
+    let magic = offload_binary_parts::MAGIC;
     wire::copy_at(out, 0, &magic);
     wire::put_word4(out, 4, 1);
     wire::put_word8(out, 8, size as u64);
@@ -249,7 +238,7 @@ fn bad_pairs(buf: &[u8], pairs: [StringPair; 32], n: usize) -> bool
         }
         i += 1;
     }
-    offload_binary::bad_keys(buf, pairs, n)
+    offload_binary_parts::bad_keys(buf, pairs, n)
 }
 
 fn refused(number: usize) -> Written
@@ -273,7 +262,7 @@ pub fn write_array(
 ) -> Written
     ensures { λ r. ⌜ (r ≡ write tags (now (image .entry)) (listed pairs n) (now (buf .entry)) (now (out .entry)) .answer) × (now (out .exit) ≡ write tags (now (image .entry)) (listed pairs n) (now (buf .entry)) (now (out .entry)) .out) ⌝ }
 {
-    if offload_binary::bad_kinds(tags.image_kind, tags.offload_kind) {
+    if offload_binary_parts::bad_kinds(tags.image_kind, tags.offload_kind) {
         return refused(15);
     }
     if bad_pairs(buf, pairs, n) {

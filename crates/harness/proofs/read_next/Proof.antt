@@ -45,20 +45,20 @@ use denote.Triple.Walked.{says, Stays, stay-none, stay-none-slice, walkOf, goes-
 use denote.Exit.{yes}
 use denote.Triple.Clauses.{ensured, Lasts, lasts}
 use Rattle.offload_binary.specs.declared.Answer.{Answer}
-use Rattle.offload_binaries.specs.Reader.{next}
+use Rattle.offload_binary.specs.Reader.{next}
 use Rattle.offload_binaries.specs.Held.{answered, moved}
-use Rattle.offload_binaries.specs.declared.Cursor.{Cursor}
+use Rattle.offload_binary.specs.declared.Cursor.{Cursor}
 use Rattle.offload_binaries.specs.declared.Reader.{Reader}
-use Rattle.offload_binaries.specs.declared.Step.{Step}
+use Rattle.offload_binary.specs.declared.Step.{Step}
 use Rattle.harness.proofs.Lent.{Back, tokens, tokens-back, dead-both, lies, lies-out}
 use Rattle.offload_binaries.proofs.Reader as T
 use Rattle.offload_binaries.proofs.Reader.Laws as T′
-use Rattle.offload_binaries.proofs.Cursor as C
-use Rattle.offload_binaries.proofs.Cursor.Laws as C′
+use Rattle.offload_binary.proofs.Cursor as C
+use Rattle.offload_binary.proofs.Cursor.Laws as C′
 use Rattle.offload_binary.proofs.Answer as N
 use Rattle.offload_binary.proofs.Answer.Laws as N′
-use Rattle.offload_binaries.proofs.Step as S
-use Rattle.offload_binaries.proofs.Step.Laws as S′
+use Rattle.offload_binary.proofs.Step as S
+use Rattle.offload_binary.proofs.Step.Laws as S′
 use Rattle.offload_binaries.proofs.Reader.next as reads
 use Rattle.offload_binaries.proofs.Reader.next.Symbol as reads-def
 use Rattle.offload_binaries.proofs.Reader.next.Symbol.{name as #next}

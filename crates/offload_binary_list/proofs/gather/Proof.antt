@@ -46,17 +46,17 @@ use denote.Triple.Table.{entered, cited}
 use denote.Triple.Walked.{says, Stays, stay-none-slice, walkOf, goes-none-slice, Walks, ends-at, walked, walk-meets}
 use denote.Exit.{yes}
 use denote.Triple.Clauses.{ensured, lasts}
-use Rattle.offload_binary_list.specs.Code.{gathered}
+use Rattle.offload_binary.specs.Arrays.{gathered}
 use Rattle.offload_binary.specs.Lists.{slots}
 use Rattle.offload_binary.specs.Binary.{noPair}
 use Rattle.offload_binary.specs.declared.StringPair.{StringPair}
 use Rattle.offload_binary.proofs.StringPair as T
 use Rattle.offload_binary.proofs.StringPair.Laws as T′
 use Rattle.offload_binary_list.proofs.Gathered.{sofar, sofar-none, sofar-next, sofar-all}
-use Rattle.offload_binary.proofs.no_pairs as none
-use Rattle.offload_binary.proofs.no_pairs.Symbol as none-def
-use Rattle.offload_binary.proofs.no_pairs.Symbol.{name as #no-pairs}
-use Rattle.offload_binary.proofs.no_pairs.Met as none-thm
+use Rattle.offload_binary_parts.proofs.no_pairs as none
+use Rattle.offload_binary_parts.proofs.no_pairs.Symbol as none-def
+use Rattle.offload_binary_parts.proofs.no_pairs.Symbol.{name as #no-pairs}
+use Rattle.offload_binary_parts.proofs.no_pairs.Met as none-thm
 use Rattle.offload_binary_list.proofs.put_pair as put
 use Rattle.offload_binary_list.proofs.put_pair.Symbol as put-def
 use Rattle.offload_binary_list.proofs.put_pair.Symbol.{name as #put-pair}
@@ -254,6 +254,6 @@ gather-spec 𝓤 H 𝓜 𝓖 𝓡 =
     entered 𝓤 H (tripleOf 𝓤 H (𝓖 .A) gather.signature (gather.spec 𝓤 H (𝓖 .A) (𝓜 .mem) (𝓡 .run)))
     (tables 𝓤 H 𝓜 𝓡 code.env .C) (tables 𝓤 H 𝓜 𝓡 code.env .Λ) #gather code.function (code.unfolded 𝓤 H 𝓜 𝓡)
     (gather-meets 𝓤 H (𝓖 .A) (givenOf 𝓤 H 𝓜 𝓖) (𝓜 .mem) (𝓡 .run) (tablesOf 𝓤 H 𝓜 (tables 𝓤 H 𝓜 𝓡 code.env))
-    (cited 𝓤 H (None 𝓤 H (𝓖 .A) (𝓜 .mem) (𝓡 .run)) 𝓜 𝓡 code.env #no-pairs none-def.routine code.calls-offload-binary·no-pairs (none-thm.met 𝓤 H 𝓜 𝓖 𝓡))
+    (cited 𝓤 H (None 𝓤 H (𝓖 .A) (𝓜 .mem) (𝓡 .run)) 𝓜 𝓡 code.env #no-pairs none-def.routine code.calls-offload-binary-parts·no-pairs (none-thm.met 𝓤 H 𝓜 𝓖 𝓡))
     (cited 𝓤 H (Or0 𝓤 H (𝓖 .A) (𝓜 .mem) (𝓡 .run)) 𝓜 𝓡 code.env #pair-or-none or0-def.routine code.calls-offload-binary-list·pair-or-none (or0-thm.met 𝓤 H 𝓜 𝓖 𝓡))
     (cited 𝓤 H (Put 𝓤 H (𝓖 .A) (𝓜 .mem) (𝓡 .run)) 𝓜 𝓡 code.env #put-pair put-def.routine code.calls-offload-binary-list·put-pair (put-thm.met 𝓤 H 𝓜 𝓖 𝓡)))

@@ -39,19 +39,18 @@ use denote.Triple.Table.{entered, cited}
 use denote.Triple.Walked.{says, Stays, stay-none, stay-none-slice, gave-slice, walkOf, goes-none, goes-none-slice, goes-gave-slice, Walks, ends-at, walked, walk-meets}
 use denote.Exit.{yes}
 use denote.Triple.Clauses.{ensured, Lasts, lasts}
-use Rattle.offload_binary_writer.specs.Writer.{Output, write}
-use Rattle.offload_binary_list.specs.Code.{gathered}
-use Rattle.offload_binary_writer.specs.Writer.{listed}
-use Rattle.offload_binary_writer.specs.declared.Tags.{Tags}
-use Rattle.offload_binary_list.proofs.Gathered.{write-gathered}
+use Rattle.offload_binary.specs.Writer.{Output, write, listed}
+use Rattle.offload_binary.specs.Arrays.{gathered}
+use Rattle.offload_binary.specs.declared.Tags.{Tags}
+use Rattle.offload_binary.proofs.GatherLaws.{write-gathered}
 use Rattle.offload_binary.specs.declared.StringPair.{StringPair}
-use Rattle.offload_binary_writer.specs.declared.Written.{Written}
+use Rattle.offload_binary.specs.declared.Written.{Written}
 use Rattle.offload_binary.proofs.StringPair as T
 use Rattle.offload_binary.proofs.StringPair.Laws as T′
-use Rattle.offload_binary_writer.proofs.Tags as G
-use Rattle.offload_binary_writer.proofs.Tags.Laws as G′
-use Rattle.offload_binary_writer.proofs.Written as S
-use Rattle.offload_binary_writer.proofs.Written.Laws as S′
+use Rattle.offload_binary.proofs.Tags as G
+use Rattle.offload_binary.proofs.Tags.Laws as G′
+use Rattle.offload_binary.proofs.Written as S
+use Rattle.offload_binary.proofs.Written.Laws as S′
 use Rattle.offload_binary_list.proofs.gather as gather
 use Rattle.offload_binary_list.proofs.gather.Symbol as gather-def
 use Rattle.offload_binary_list.proofs.gather.Symbol.{name as #gather}

@@ -6,8 +6,8 @@ use mathlib.Core.Bool.{false}
 use lib.ListN.{getD}
 use borrow.Author.Count.{below-more}
 use Rattle.offload_binary.specs.Binary.{noPair}
-use Rattle.offload_binary_writer.specs.Writer.{badPair}
-use Rattle.offload_binary_writer.proofs.CallLaws.{pairs-many, pairs-bad, pairs-keys}
+use Rattle.offload_binary.specs.Writer.{badPair}
+use Rattle.offload_binary.proofs.CallLaws.{pairs-many, pairs-bad, pairs-keys}
 use Rattle.offload_binary_writer.proofs.bad_pairs.Statement.{statement}
 use Rattle.offload_binary_writer.proofs.bad_pairs.Tie as tie
 

@@ -1,4 +1,4 @@
-use Rattle.offload_binary_writer.proofs.TextLaws.{part-key, part-text}
+use Rattle.offload_binary.proofs.TextLaws.{part-key, part-text}
 use borrow.Author.Needs.{needs}
 use Rattle.offload_binary_writer.proofs.part_in.Statement.{statement}
 use Rattle.offload_binary_writer.proofs.part_in.Tie as tie

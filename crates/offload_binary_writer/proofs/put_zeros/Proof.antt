@@ -1,7 +1,7 @@
 use mathlib.Core.Path.{ap, _∙_}
 use Rattle.wire.specs.Bytes.{overwrite}
 use Rattle.offload_binary.specs.Binary.{bytesAt}
-use Rattle.offload_binary_writer.proofs.TextLaws.{few-zeros}
+use Rattle.offload_binary.proofs.TextLaws.{few-zeros}
 use borrow.Author.Needs.{needs}
 use Rattle.offload_binary_writer.proofs.put_zeros.Statement.{statement}
 use Rattle.offload_binary_writer.proofs.put_zeros.Tie as tie

@@ -1,6 +1,6 @@
 use mathlib.Core.Path.{ap, _∙_}
 use Rattle.offload_binary.specs.Binary.{bytesAt}
-use Rattle.offload_binary_writer.specs.Code.{textIn}
+use Rattle.offload_binary.specs.Arrays.{textIn}
 use borrow.Author.Needs.{needs}
 use Rattle.offload_binary_writer.proofs.text_in.Statement.{statement}
 use Rattle.offload_binary_writer.proofs.text_in.Tie as tie

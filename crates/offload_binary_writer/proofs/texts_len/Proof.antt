@@ -5,8 +5,8 @@ use mathlib.Core.Path.{_≡_, sym, ap, _∙_}
 use lib.ListN.{length}
 use Rattle.wire.specs.Lists.{tab}
 use Rattle.offload_binary.specs.Contents.{stringBytes}
-use Rattle.offload_binary_writer.specs.Code.{textIn}
-use Rattle.offload_binary_writer.proofs.TextLaws.{strings-none, length-more}
+use Rattle.offload_binary.specs.Arrays.{textIn}
+use Rattle.offload_binary.proofs.TextLaws.{strings-none, length-more}
 use Rattle.offload_binary_writer.proofs.texts_len.Statement.{statement}
 use Rattle.offload_binary_writer.proofs.texts_len.Tie as tie
 

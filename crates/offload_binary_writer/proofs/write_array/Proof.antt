@@ -1,8 +1,8 @@
 use native.Mathlib.Omega.{arith}
 use mathlib.Core.Path.{sym, _∙_}
-use Rattle.offload_binary_writer.specs.Writer.{listed}
+use Rattle.offload_binary.specs.Writer.{listed}
 use Rattle.offload_binary_writer.proofs.WholeLaws.{size-is}
-use Rattle.offload_binary_writer.proofs.CallLaws.{few-pairs, short-texts, call-kinds, call-pairs, call-big, image-big, call-room, call-good}
+use Rattle.offload_binary.proofs.CallLaws.{few-pairs, short-texts, call-kinds, call-pairs, call-big, image-big, call-room, call-good}
 use borrow.Author.Needs.{needs}
 use Rattle.offload_binary_writer.proofs.write_array.Statement.{statement}
 use Rattle.offload_binary_writer.proofs.write_array.Tie as tie

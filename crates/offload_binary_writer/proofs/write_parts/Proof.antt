@@ -5,7 +5,8 @@ use lib.ListN.{length, replicate}
 use Rattle.wire.specs.Bytes.{overwrite}
 use Rattle.wire.specs.Lists.{tab}
 use Rattle.offload_binary.specs.Contents.{fieldBytes, offsets, stringBytes}
-use Rattle.offload_binary_writer.specs.Code.{textIn, entryFields}
+use Rattle.offload_binary.specs.Arrays.{textIn}
+use Rattle.offload_binary_writer.specs.Code.{entryFields}
 use Rattle.offload_binary_writer.proofs.WholeLaws.{ordered, whole}
 use borrow.Author.Needs.{needs}
 use Rattle.offload_binary_writer.proofs.write_parts.Statement.{statement}

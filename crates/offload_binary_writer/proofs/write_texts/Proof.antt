@@ -7,8 +7,8 @@ use Rattle.wire.specs.Bytes.{overwrite}
 use Rattle.wire.proofs.OverwriteLaws.{overwrite-nil}
 use Rattle.wire.specs.Lists.{tab}
 use Rattle.offload_binary.specs.Contents.{stringBytes}
-use Rattle.offload_binary_writer.specs.Code.{textIn}
-use Rattle.offload_binary_writer.proofs.TextLaws.{strings-none, length-more}
+use Rattle.offload_binary.specs.Arrays.{textIn}
+use Rattle.offload_binary.proofs.TextLaws.{strings-none, length-more}
 use Rattle.offload_binary_writer.proofs.WriteLaws.{strings-room, strings-turn}
 use Rattle.offload_binary_writer.proofs.write_texts.Statement.{statement}
 use Rattle.offload_binary_writer.proofs.write_texts.Tie as tie

@@ -42,18 +42,18 @@ use denote.Triple.Spec.{Meets, tripleOf}
 use denote.Triple.Table.{entered, cited}
 use denote.Triple.Walked.{says, Stays, stay-ref, walkOf, goes-ref, Walks, ends-at, walked, walk-meets}
 use denote.Triple.Clauses.{ensured, lasts}
-use Rattle.offload_binaries.specs.Reader.{next}
+use Rattle.offload_binary.specs.Reader.{next}
 use Rattle.offload_binaries.specs.Held.{answered, moved}
 use Rattle.offload_binaries.specs.declared.Reader.{Reader}
-use Rattle.offload_binaries.specs.declared.Step.{Step}
+use Rattle.offload_binary.specs.declared.Step.{Step}
 use Rattle.offload_binaries.proofs.Reader as T
 use Rattle.offload_binaries.proofs.Reader.Laws as T′
-use Rattle.offload_binaries.proofs.Cursor as C
-use Rattle.offload_binaries.proofs.Cursor.Laws as C′
+use Rattle.offload_binary.proofs.Cursor as C
+use Rattle.offload_binary.proofs.Cursor.Laws as C′
 use Rattle.offload_binary.proofs.Answer as N
 use Rattle.offload_binary.proofs.Answer.Laws as N′
-use Rattle.offload_binaries.proofs.Step as S
-use Rattle.offload_binaries.proofs.Step.Laws as S′
+use Rattle.offload_binary.proofs.Step as S
+use Rattle.offload_binary.proofs.Step.Laws as S′
 use Rattle.offload_binaries.proofs.next_at as at′
 use Rattle.offload_binaries.proofs.next_at.Symbol as at-def
 use Rattle.offload_binaries.proofs.next_at.Symbol.{name as #next-at}

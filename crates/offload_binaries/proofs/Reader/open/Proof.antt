@@ -35,10 +35,10 @@ use denote.Triple.Spec.{Meets, tripleOf}
 use denote.Triple.Table.{entered}
 use denote.Triple.Walked.{says, Stays, stay-none-slice, walkOf, goes-none-slice, Walks, ends-at, walked, walk-meets}
 use denote.Exit.{yes}
-use Rattle.offload_binaries.specs.Reader.{opened}
+use Rattle.offload_binary.specs.Reader.{opened}
 use Rattle.offload_binaries.specs.declared.Reader.{Reader}
-use Rattle.offload_binaries.proofs.Cursor as C
-use Rattle.offload_binaries.proofs.Cursor.Laws as C′
+use Rattle.offload_binary.proofs.Cursor as C
+use Rattle.offload_binary.proofs.Cursor.Laws as C′
 use Rattle.offload_binaries.proofs.Reader as T
 use Rattle.offload_binaries.proofs.Reader.Laws as T′
 use Rattle.offload_binaries.proofs.Reader.open.Key.{name as #open}

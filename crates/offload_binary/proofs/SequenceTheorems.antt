@@ -1,0 +1,15 @@
+-- The theorems on sequences of offload binaries. Assumes nothing.
+use Rattle.offload_binary.specs.SequenceTheorems.{Theorems}
+use Rattle.offload_binary.proofs.ReaderLaws.{accepted-at-end, one-after-another, reads-all, stays}
+use Rattle.offload_binary.proofs.WrittenLaws.{good}
+use Rattle.offload_binary.proofs.Sequences.{reads-back, lists-back}
+
+pub theorems : Theorems
+theorems = record {
+  accepted-at-end = accepted-at-end;
+  one-after-another = one-after-another;
+  reads-all = reads-all;
+  stays = stays;
+  reads-back = λ g front rest taken w few within. reads-back g front rest taken (good g w) few within;
+  lists-back = lists-back;
+}

@@ -1,0 +1,5 @@
+pub mod StringLaws
+pub mod PairLaws
+pub mod HeadLaws
+pub mod BodyLaws
+pub mod AtLaws
