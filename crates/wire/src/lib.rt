@@ -3,7 +3,7 @@
 ghost use mathlib.Core.Path.{_≡_};
 ghost use Prim.Native.Nat.{ℕ, _+_, _^_, _<_, _≤_};
 ghost use mathlib.Core.Bool.{true};
-ghost use lib.ListN.{length, getD, drop};
+ghost use lib.ListN.{length, getD, drop, replicate};
 ghost use lib.Seq.{paste};
 ghost use Rattle.wire.specs.Word.{bytesOf, word};
 ghost use Rattle.wire.specs.Bytes.{same, before, common, overwrite};
@@ -82,15 +82,16 @@ pub fn word8_at(s: &[u8], at: usize) -> u64
     word4_at(s, at) + 0x100000000 * word4_at(s, at + 4)
 }
 
-fn blank() -> [u8; 16384]
-    ensures { λ r. ⌜ length r ≡ 16384 ⌝ }
+fn blank() -> [u8; 268435456]
+    ensures { λ r. ⌜ r ≡ replicate 268435456 0 ⌝ }
 {
-    [0u8; 16384]
+    [0u8; 268435456]
 }
 
-// Copies n bytes of `src` through a local array that is then dropped whole: the two loops compile to one memmove.
+// Copies n bytes of `src` through a local array that is then dropped whole: the two loops compile to one memmove, and the array is never laid out.
+// So a part can be as long as a single copy should be: above a size of its own (here a hundred MiB or two) the C library copies past the cache.
 fn copy_part(out: &mut [u8], at: usize, src: &[u8], from: usize, n: usize)
-    requires { ⌜ (at + n ≤ length (now out)) × ((from + n ≤ length (now src)) × (n ≤ 16384)) ⌝ }
+    requires { ⌜ (at + n ≤ length (now out)) × ((from + n ≤ length (now src)) × (n ≤ 268435456)) ⌝ }
     ensures { λ _. ⌜ now (out .exit) ≡ paste (now (out .entry)) at (drop from (now (src .entry))) n ⌝ }
 {
     let mut part = blank();
@@ -119,8 +120,8 @@ pub fn copy_at(out: &mut [u8], at: usize, src: &[u8])
     let mut i = 0;
     while i < src.len() {
         let mut n = src.len() - i;
-        if 16384 < n {
-            n = 16384;
+        if 268435456 < n {
+            n = 268435456;
         }
         copy_part(out, at + i, src, i, n);
         i += n;
