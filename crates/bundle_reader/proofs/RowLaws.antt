@@ -5,15 +5,15 @@ use native.Mathlib.Numerals.{add-one}
 use mathlib.Core.Path.{_≡_, sym, ap, ap₂, _∙_}
 use mathlib.Core.Bool.{Bool, true, false}
 use mathlib.Core.List.{List}
-use borrow.Author.Count.{below-more}
 use lib.ListN.{length, getD, set, replicate, length-replicate}
-use Rattle.wire.proofs.FirstLaws.{first-le, first-is, first-none}
+use Rattle.wire.specs.Word.{word}
+use Rattle.wire.proofs.FirstLaws.{first-is, first-none, first-before}
 use Rattle.bundle.specs.Table.{rowStart, row, rowAt}
 use Rattle.bundle.specs.Check.{badRow}
 use Rattle.bundle.specs.Accepted.{RowFits}
 use Rattle.bundle.specs.Records.{noRecord, recordAt, rowOf, rowsOf}
-use Rattle.bundle_reader.specs.Examined.{filled, heldRow, rowsIn}
-use Rattle.bundle_reader.specs.Slots.{Rows, Tabled, IdsIn}
+use Rattle.bundle_reader.specs.Examined.{heldRow, rowsIn}
+use Rattle.bundle_reader.specs.Slots.{Rows, Tabled}
 use Rattle.bundle_reader.proofs.SlotLaws.{filled-at, filled-next}
 use Rattle.bundle.specs.declared.EntryRecord.{EntryRecord}
 use Rattle.bundle.proofs.CheckLaws.{rowFits}
@@ -25,52 +25,49 @@ pub row-inside : (s : List ℕ) (at : ℕ) (r : EntryRecord) → r ≡ heldRow s
 unfolding heldRow
 row-inside s at r e f = rw e (f .id-in)
 
--- ---- the loop that reads the rows, where it stands at the start of row i
+-- ---- loops over the rows, at the start of row i
 
-module _ (s : List ℕ) (i at : ℕ) (rows : List EntryRecord) (e : at ≡ rowStart s i) (p : Rows s i rows) where
-  -- what is read there
-  module _ (r : EntryRecord) (q : r ≡ heldRow s at) where
-    pub row-next : r .«id_start» + r .«id_len» ≡ rowStart s (i + 1)
-    unfolding heldRow rowStart
-    row-next = ap (λ z. z .«id_start» + z .«id_len») (q ∙ ap (heldRow s) e) ∙ rw add-one
+module _ (s : List ℕ) (i at : ℕ) (e : at ≡ rowStart s i) where
+  pub next-start : at + 24 + word 8 s (at + 16) ≡ rowStart s (i + 1)
+  unfolding rowStart
+  next-start = ap (λ z. z + 24 + word 8 s (z + 16)) e ∙ rw add-one
 
-    pub rows-more : i < 64 → RowFits s at → Rows s (i + 1) (set rows i r)
-    unfolding rowsIn
-    rows-more h f = record {
-      few = omega arith;
-      fits = below-more _ i (p .fits) (rw e at f);
-      are = ap₂ (λ z x. set z i x) (p .are) (q ∙ ap (heldRow s) e) ∙ sym (filled-next (replicate 64 noRecord) i (λ k. heldRow s (rowStart s k)));
+  -- the rows before it are not bad
+  module _ (passed : (k : ℕ) → k < i → badRow s (rowStart s k) ≡ false) where
+    pub tabled-bad : (n end : ℕ) (b : Bool) → i < n → b ≡ badRow s at → b ≡ true → Tabled s n i end
+    tabled-bad n end b h u v = record {
+      bad-is = sym (first-is n (λ k. badRow s (rowStart s k)) i h (ap (badRow s) (sym e) ∙ sym u ∙ v) passed);
+      end-is = λ l. absurd (omega arith);
     }
 
-  passed : (k : ℕ) → k < i → badRow s (rowStart s k) ≡ false
-  passed k h = rowFits s (rowStart s k) .1 (p .fits k h)
+    pub tabled-all : (n : ℕ) → i ≡ n → Tabled s n i at
+    tabled-all n z = record {
+      bad-is = z ∙ sym (first-none n (λ k. badRow s (rowStart s k)) (λ k h. passed k (omega arith)));
+      end-is = λ l. e ∙ ap (rowStart s) z;
+    }
 
-  -- the row there is bad; there is no further row
-  pub tabled-bad : (n end : ℕ) (b : Bool) → i < n → b ≡ badRow s at → b ≡ true → Tabled s n rows i end
-  tabled-bad n end b h u v = record {
-    bad-is = sym (first-is n (λ k. badRow s (rowStart s k)) i h (ap (badRow s) (sym e) ∙ sym u ∙ v) passed);
-    end-is = λ l. absurd (omega arith);
-    rows-are = p;
-  }
+  -- the row that is read there
+  module _ (r : EntryRecord) (q : r ≡ heldRow s at) where
+    pub row-next : r .«id_start» + r .«id_len» ≡ rowStart s (i + 1)
+    unfolding heldRow
+    row-next = ap (λ z. z .«id_start» + z .«id_len») q ∙ next-start
 
-  pub tabled-all : (n : ℕ) → i ≡ n → Tabled s n rows i at
-  tabled-all n z = record {
-    bad-is = z ∙ sym (first-none n (λ k. badRow s (rowStart s k)) (λ k h. passed k (omega arith)));
-    end-is = λ l. e ∙ ap (rowStart s) z;
-    rows-are = p;
-  }
+    pub row-is : rowOf s r ≡ row s i
+    unfolding rowOf heldRow row rowAt
+    row-is = ap (rowOf s) (q ∙ ap (heldRow s) e)
+
+    pub rows-more : (rows : List EntryRecord) → rows ≡ rowsIn s i → set rows i r ≡ rowsIn s (i + 1)
+    unfolding rowsIn
+    rows-more rows p = ap₂ (λ z x. set z i x) p (q ∙ ap (heldRow s) e) ∙ sym (filled-next (replicate 64 noRecord) i (λ k. heldRow s (rowStart s k)))
+
+pub tabled-fits : (s : List ℕ) (n bad end : ℕ) → Tabled s n bad end → n ≤ bad → (k : ℕ) → k < n → RowFits s (rowStart s k)
+tabled-fits s n bad end t h k l = rowFits s (rowStart s k) .0 (first-before n (λ i. badRow s (rowStart s i)) k (omega (arith, t .bad-is)))
 
 -- ---- rows that were read
-
-pub rows-all : (s : List ℕ) (n : ℕ) (rows : List EntryRecord) (bad end : ℕ) → Tabled s n rows bad end → n ≤ bad → Rows s n rows
-rows-all s n rows bad end t h = let e : bad ≡ n = omega (arith, t .bad-is, first-le n (λ i. badRow s (rowStart s i))) in rw e at (t .rows-are)
 
 row-held : (s : List ℕ) (n : ℕ) (rows : List EntryRecord) → Rows s n rows → (k : ℕ) → k < n → getD rows k noRecord ≡ heldRow s (rowStart s k)
 unfolding rowsIn
 row-held s n rows r k h = ap (λ z. getD z k noRecord) (r .are) ∙ filled-at (replicate 64 noRecord) n (λ k. heldRow s (rowStart s k)) noRecord (omega (arith, r .few, length-replicate 64 noRecord)) k h
-
-pub ids-in : (s : List ℕ) (n : ℕ) (rows : List EntryRecord) → Rows s n rows → IdsIn s n rows
-ids-in s n rows r = record { few = r .few; inside = λ k h. row-inside s (rowStart s k) (getD rows k noRecord) (row-held s n rows r k h) (r .fits k h) }
 
 pub rows-are : (s : List ℕ) (n : ℕ) (rows : List EntryRecord) → Rows s n rows → (k : ℕ) → k < n → rowsOf s rows k ≡ row s k
 unfolding rowsOf recordAt rowOf heldRow row rowAt

@@ -2,7 +2,7 @@
 use Prim.Native.Nat.{ℕ, zero, suc, _+_, _*_, _≤_, _<_}
 use native.Mathlib.Omega.{arith}
 use native.Mathlib.Numerals.{add-one}
-use mathlib.Core.Path.{_≡_, refl, sym, ap, ap₂, _∙_, subst}
+use mathlib.Core.Path.{_≡_, refl, sym, ap, ap₂, _∙_}
 use mathlib.Core.Bool.{Bool, true, false}
 use mathlib.Core.List.{List, [], _∷_, _++_, append-assoc}
 use borrow.Author.Count.{below-more}
@@ -12,7 +12,7 @@ use lib.Seq.{drop-drop, drop-append-le, take-append-le, drop-at, take-at, length
 use Rattle.wire.specs.Bytes.{empty, overwrite}
 use Rattle.wire.specs.First.{first, anyBelow}
 use Rattle.wire.specs.Stop.{earlier}
-use Rattle.wire.proofs.FirstLaws.{first-le, first-before}
+use Rattle.wire.proofs.Bools.{clash}
 use Rattle.wire.proofs.OverwriteLaws.{overwrite-in, overwrite-nil, length-overwrite}
 use Rattle.entry_id.specs.IdRules.{IdRules, Lawful}
 use Rattle.bundle.specs.Table.{Row}
@@ -21,7 +21,7 @@ use Rattle.entry_id.specs.Canonical.{headKey}
 use Rattle.canonical_form.specs.Made.{formOf}
 use Rattle.canonical_form.specs.declared.Form.{Form}
 use Rattle.bundle_reader.specs.Examined.{filled, slots, text, form, formLength}
-use Rattle.bundle_reader.specs.Slots.{Held, Texts, Room, Formed}
+use Rattle.bundle_reader.specs.Slots.{Held, Texts, Room, Formed, Placed, setIf}
 
 pub length-empty : (l : List ℕ) → length l ≡ 0 → empty l ≡ true
 unfolding empty
@@ -32,6 +32,11 @@ pub length-some : (l : List ℕ) → (length l ≡ 0 → ⊥) → empty l ≡ fa
 unfolding empty
 length-some [] n = absurd (n refl)
 length-some (x ∷ l) n = refl
+
+empty-nil : (l : List ℕ) → empty l ≡ true → l ≡ []
+unfolding empty
+empty-nil [] e = refl
+empty-nil (x ∷ l) e = clash false e refl
 
 -- ---- one slot is written
 
@@ -145,43 +150,53 @@ module _ (R : IdRules) (rows : ℕ → Row) (i : ℕ) (texts₀ lens₀ keys₀ 
     keys-room = omega (arith, r .keys-room, formed-lengths .2);
   }
 
-  -- what `canonical_at` gives for the ID of row i
-  module _ (id after : List ℕ) (made : Form) (e : id ≡ rows i .id) (q : made ≡ formOf (R .canon id)) (w : after ≡ overwrite texts (i * 256) (R .canon id)) where
-    size : made .length ≡ length (R .canon (rows i .id))
-    unfolding formOf
-    size = ap (λ (z : Form). z .length) q ∙ ap (λ z. length (R .canon z)) e
-
-    number : made .key ≡ headKey (R .canon (rows i .id))
-    unfolding formOf
-    number = ap (λ (z : Form). z .key) q ∙ ap (λ z. headKey (R .canon z)) e
-
-    pub formed-more : Formed R rows (i + 1) texts₀ lens₀ keys₀ after (set lens i (made .length)) (set keys i (made .key))
+  -- the ID of row i, placed
+  module _ (id after lens-after keys-after : List ℕ) (ok : Bool) (e : id ≡ rows i .id) (p : Placed R id i texts lens keys after lens-after keys-after ok) where
+    pub formed-more : ok ≡ true → Formed R rows (i + 1) texts₀ lens₀ keys₀ after lens-after keys-after
     unfolding form formLength
-    formed-more = record {
-      texts-are = w ∙ ap₂ (λ z x. overwrite z (i * 256) (R .canon x)) (f .texts-are) e ∙ sym (slots-next texts₀ i (form R rows));
-      lens-are = ap₂ (λ z x. set z i x) (f .lens-are) size ∙ sym (filled-next lens₀ i (formLength R rows));
-      keys-are = ap₂ (λ z x. set z i x) (f .keys-are) number ∙ sym (filled-next keys₀ i (λ k. headKey (form R rows k)));
+    formed-more y = record {
+      texts-are = p .texts-are ∙ ap₂ (λ z x. overwrite z (i * 256) (R .canon x)) (f .texts-are) e ∙ sym (slots-next texts₀ i (form R rows));
+      lens-are = p .lens-are ∙ ap (λ b. setIf b lens i (length (R .canon id))) y ∙ ap₂ (λ z x. set z i (length (R .canon x))) (f .lens-are) e ∙ sym (filled-next lens₀ i (formLength R rows));
+      keys-are = p .keys-are ∙ ap (λ b. setIf b keys i (headKey (R .canon id))) y ∙ ap₂ (λ z x. set z i (headKey (R .canon x))) (f .keys-are) e ∙ sym (filled-next keys₀ i (λ k. headKey (form R rows k)));
     }
 
-    pub bad-here : made .length ≡ 0 → badId R (rows i) ≡ true
+    pub bad-here : ok ≡ false → badId R (rows i) ≡ true
     unfolding badId
-    bad-here z = length-empty (R .canon (rows i .id)) (sym size ∙ z)
+    bad-here y = ap (λ z. empty (R .canon z)) (sym e) ∙ p .bad y
 
-    pub fine-here : (made .length ≡ 0 → ⊥) → badId R (rows i) ≡ false
+    pub fine-here : ok ≡ true → badId R (rows i) ≡ false
     unfolding badId
-    fine-here z = length-some (R .canon (rows i .id)) (λ (q : length (R .canon (rows i .id)) ≡ 0). z (size ∙ q))
+    fine-here y = ap (λ z. empty (R .canon z)) (sym e) ∙ p .fine y
 
     -- nothing is written of an ID that breaks the rules
-    pub formed-bad : made .length ≡ 0 → Formed R rows i texts₀ lens₀ keys₀ after lens keys
-    formed-bad z = record {
-      texts-are = w ∙ ap (overwrite texts (i * 256)) (none (R .canon id) (ap (λ x. length (R .canon x)) e ∙ sym size ∙ z)) ∙ overwrite-nil texts (i * 256) ∙ f .texts-are;
-      lens-are = f .lens-are;
-      keys-are = f .keys-are;
+    pub formed-bad : ok ≡ false → Formed R rows i texts₀ lens₀ keys₀ after lens-after keys-after
+    formed-bad y = record {
+      texts-are = p .texts-are ∙ ap (overwrite texts (i * 256)) (empty-nil (R .canon id) (p .bad y)) ∙ overwrite-nil texts (i * 256) ∙ f .texts-are;
+      lens-are = p .lens-are ∙ ap (λ b. setIf b lens i (length (R .canon id))) y ∙ f .lens-are;
+      keys-are = p .keys-are ∙ ap (λ b. setIf b keys i (headKey (R .canon id))) y ∙ f .keys-are;
     }
-      where
-        none : (l : List ℕ) → length l ≡ 0 → l ≡ []
-        none [] h = refl
-        none (x ∷ l) h = absurd (omega arith)
+
+-- what `canonical_at` gives, placed or not
+module _ (R : IdRules) (id : List ℕ) (i : ℕ) (texts lens keys after : List ℕ) (made : Form) (q : made ≡ formOf (R .canon id)) (w : after ≡ overwrite texts (i * 256) (R .canon id)) where
+  size : made .length ≡ length (R .canon id)
+  unfolding formOf
+  size = ap (λ (z : Form). z .length) q
+
+  number : made .key ≡ headKey (R .canon id)
+  unfolding formOf
+  number = ap (λ (z : Form). z .key) q
+
+  pub placed-none : made .length ≡ 0 → Placed R id i texts lens keys after lens keys false
+  placed-none z = record { bad = λ y. length-empty (R .canon id) (sym size ∙ z); fine = λ y. clash false y refl; texts-are = w; lens-are = refl; keys-are = refl }
+
+  pub placed-one : (made .length ≡ 0 → ⊥) → Placed R id i texts lens keys after (set lens i (made .length)) (set keys i (made .key)) true
+  placed-one z = record {
+    bad = λ y. clash true refl y;
+    fine = λ y. length-some (R .canon id) (λ (q : length (R .canon id) ≡ 0). z (size ∙ q));
+    texts-are = w;
+    lens-are = ap (set lens i) size;
+    keys-are = ap (set keys i) number;
+  }
 
 -- ---- the slots, as texts
 
@@ -198,22 +213,6 @@ formed-texts R L rows n texts₀ lens₀ keys₀ texts lens keys room f named = 
         key = ap (λ z. getD z k 0) (f .keys-are) ∙ filled-at keys₀ n (λ j. headKey (form R rows j)) 0 (room .keys-room) k h ∙ ap headKey (sym x);
       };
 }
-
--- rows of which none has a bad ID
-module _ (R : IdRules) (L : Lawful R) (rows : ℕ → Row) (n : ℕ) (texts₀ lens₀ keys₀ texts lens keys : List ℕ) (bad : ℕ) (e : bad ≡ first n (λ i. badId R (rows i)))
-    (f : Formed R rows bad texts₀ lens₀ keys₀ texts lens keys) (none : n ≤ bad) (room : Room n texts₀ lens₀ keys₀)
-  where
-    bad-all : bad ≡ n
-    bad-all = omega (arith, e, first-le n (λ i. badId R (rows i)))
-
-    all : Formed R rows n texts₀ lens₀ keys₀ texts lens keys
-    all = subst (λ m. Formed R rows m texts₀ lens₀ keys₀ texts lens keys) bad-all f
-
-    pub named-held : (k : ℕ) → k < n → Held R rows texts lens k
-    named-held = held R L rows n texts₀ lens₀ texts lens (room .texts-room) (room .lens-room) (all .texts-are) (all .lens-are)
-
-    pub named-texts : Texts R texts lens keys n
-    named-texts = formed-texts R L rows n texts₀ lens₀ keys₀ texts lens keys room all (λ k h. first-before n (λ i. badId R (rows i)) k (omega (arith, e)))
 
 -- an earlier slot was looked for: r is the first, or i
 module _ {A : Type 0} (related : A → A → Bool) (f : ℕ → A) (i r : ℕ) (e : r ≡ first i (λ j. related (f j) (f i))) where

@@ -1,29 +1,33 @@
 -- Where the check stops, stage by stage, and what is then left. Assumes nothing.
-use Prim.Native.Nat.{ℕ, zero, suc, _*_, _≤_, _<_}
+use Prim.Native.Nat.{ℕ, zero, suc, _+_, _*_, _≤_, _<_}
 use native.Mathlib.Omega.{arith}
 use mathlib.Core.Path.{_≡_, refl, sym, ap, ap₂, _∙_, subst}
-use mathlib.Core.Bool.{Bool, true, false}
+use mathlib.Core.Bool.{Bool, true, false, _||_}
 use mathlib.Core.List.{List}
+use lib.Dec.{ltb}
 use lib.ListN.{length, replicate}
+use borrow.Author.Tests.{lt-ltb, le-ltb, ltb-true, ltb-false}
+use borrow.Author.Count.{below-more, below-none}
 use Rattle.wire.specs.First.{first}
 use Rattle.wire.specs.Stop.{Stop, go, stop, _⨾_, stopAt, earlier}
-use Rattle.wire.proofs.FirstLaws.{first-same, first-none, first-le, any-same}
-use Rattle.wire.proofs.StopLaws.{⨾-go, ⨾-stop, ⨾-next, ⨾-left, ⨾-right, stopAt-same, stopAt-found, stopAt-clear}
+use Rattle.wire.proofs.Bools.{byBool, or-true, neither-or}
+use Rattle.wire.proofs.FirstLaws.{first-le, first-before, first-at, first-is, first-none, any-same}
+use Rattle.wire.proofs.StopLaws.{⨾-go, ⨾-stop, ⨾-next, ⨾-left, ⨾-right, stopAt-same, stopAt-found, stopAt-clear, earlier-none}
 use Rattle.entry_id.specs.Canonical.{headKey}
 use Rattle.entry_id.specs.IdRules.{IdRules, Lawful}
 use Rattle.bundle.specs.Table.{Row, count, rowStart, row, tableEnd}
 use Rattle.bundle.specs.Check.{badRow, badId, outside, meanSame, mix, unrefused, headStop, tableStop, rowsStop, bundleStop, check}
 use Rattle.bundle.specs.Accepted.{Accepted}
-use Rattle.bundle.specs.Records.{noRecord, rowsOf}
+use Rattle.bundle.specs.Records.{noRecord, rowOf}
 use Rattle.bundle.specs.declared.EntryRecord.{EntryRecord}
 use Rattle.bundle.specs.declared.Checked.{Checked}
 use Rattle.bundle.proofs.CheckLaws.{unrefused-go, unrefused-stop}
-use Rattle.bundle.proofs.AcceptLaws.{rowsStop-same, accepted}
+use Rattle.bundle.proofs.AcceptLaws.{accepted}
 use Rattle.bundle_reader.specs.Examined.{filled, slots, text, form, formLength, made, rowsIn, examined, formsOf}
-use Rattle.bundle_reader.specs.Slots.{Rows, Tabled, Room, Formed, Held, relation, Examination}
+use Rattle.bundle_reader.specs.Slots.{Rows, Tabled, Room, Formed, Placed, Staged, firstMore, Held, Texts, relation, Examination}
 use Rattle.bundle_reader.specs.declared.Examined.{Examined}
-use Rattle.bundle_reader.proofs.RowLaws.{rows-all, rows-are}
-use Rattle.bundle_reader.proofs.SlotLaws.{filled-same, slots-same, held}
+use Rattle.bundle_reader.proofs.RowLaws.{rows-are}
+use Rattle.bundle_reader.proofs.SlotLaws.{held, formed-room, formed-more, formed-bad, bad-here, fine-here, formed-texts}
 
 -- ---- a chain stops at its first refusal, and goes past what does not refuse
 
@@ -53,6 +57,12 @@ module _ (n : ℕ) (p q : ℕ → Bool) (twice : ℕ) (a : twice ≡ first n p) 
 
     pub at-0 : n ≤ mixed → stop 0 0 ≡ stopAt 7 n p ⨾ stopAt 8 n q
     at-0 h = past 7 n p twice _ go a once (sym (stopAt-clear 8 n q mixed b h))
+
+-- of fewer than two slots none comes after another
+pub alone : {A : Type 0} (n : ℕ) (p q : A → A → Bool) (f : ℕ → A) → n < 2 → stop 0 0 ≡ stopAt 7 n (earlier p f) ⨾ stopAt 8 n (earlier q f)
+alone {A = A} n p q f h =
+    let none : (g : A → A → Bool) → n ≡ first n (earlier g f) = λ g. sym (first-none n (earlier g f) (λ i l. earlier-none g f i (λ j k. absurd (omega arith)))) in
+    at-0 n _ _ n (none p) (omega arith) n (none q) (omega arith)
 
 -- ---- 5 to 8
 
@@ -93,15 +103,88 @@ formed-none R rows m texts lens keys e = rw e (record { texts-are = refl; lens-a
 pub formed-is : (R : IdRules) (rows : ℕ → Row) (m q : ℕ) (texts₀ lens₀ keys₀ texts lens keys : List ℕ) → m ≡ q → Formed R rows m texts₀ lens₀ keys₀ texts lens keys → Formed R rows q texts₀ lens₀ keys₀ texts lens keys
 formed-is R rows m q texts₀ lens₀ keys₀ texts lens keys e f = subst (λ z. Formed R rows z texts₀ lens₀ keys₀ texts lens keys) e f
 
-pub formed-same : (R : IdRules) (f g : ℕ → Row) (n m q : ℕ) (texts₀ lens₀ keys₀ texts lens keys : List ℕ) → ((k : ℕ) → k < n → f k ≡ g k) → m ≤ n → m ≡ q
-    → Formed R f m texts₀ lens₀ keys₀ texts lens keys → Formed R g q texts₀ lens₀ keys₀ texts lens keys
-unfolding form formLength
-formed-same R f g n m q texts₀ lens₀ keys₀ texts lens keys e h z x =
-    rw (← z) (record {
-      texts-are = x .texts-are ∙ slots-same texts₀ m (form R f) (form R g) (λ k l. ap (λ r. R .canon (r .id)) (e k (omega arith)));
-      lens-are = x .lens-are ∙ filled-same lens₀ m (formLength R f) (formLength R g) (λ k l. ap (λ r. length (R .canon (r .id))) (e k (omega arith)));
-      keys-are = x .keys-are ∙ filled-same keys₀ m (λ k. headKey (form R f k)) (λ k. headKey (form R g k)) (λ k l. ap (λ r. headKey (R .canon (r .id))) (e k (omega arith)));
-    })
+-- ---- the loop that makes them, at row i of n
+
+-- the first row outside, of one row more
+module _ (r i : ℕ) (b : Bool) where
+  more-kept : (ltb r i || b) ≡ true → firstMore r i b ≡ r
+  unfolding firstMore
+  more-kept e = ap (λ z. elim z [ true ↦ r | false ↦ i + 1 ]) e
+
+  pub more-before : r < i → firstMore r i b ≡ r
+  more-before h = more-kept (ap (λ z. z || b) (lt-ltb r i h))
+
+  pub more-here : b ≡ true → firstMore r i b ≡ r
+  more-here t = more-kept (ap (λ z. ltb r i || z) t ∙ or-true (ltb r i))
+
+  pub more-next : i ≤ r → b ≡ false → firstMore r i b ≡ i + 1
+  unfolding firstMore
+  more-next h f = ap (λ z. elim z [ true ↦ r | false ↦ i + 1 ]) (neither-or (ltb r i) b (le-ltb r i h) f)
+
+first-more : (r i : ℕ) (p : ℕ → Bool) (b : Bool) → r ≡ first i p → b ≡ p i → firstMore r i b ≡ first (i + 1) p
+first-more r i p b e q =
+    byBool (ltb r i)
+    (λ t.
+    let h : r < i = ltb-true r i t in
+    more-before r i b h ∙ sym (first-is (i + 1) p r (omega arith) (ap p e ∙ first-at i p (omega (arith, e))) (λ k l. first-before i p k (omega (arith, e)))))
+    (λ f.
+    let z : r ≡ i = omega (arith, ltb-false r i f, first-le i p, e) in
+    let before : (k : ℕ) → k < i → p k ≡ false = λ k l. first-before i p k (omega (arith, e, z)) in
+    byBool b
+    (λ t. more-here r i b t ∙ z ∙ sym (first-is (i + 1) p i (omega arith) (sym q ∙ t) before))
+    (λ u. more-next r i b (omega arith) u ∙ sym (first-none (i + 1) p (below-more _ i before (sym q ∙ u)))))
+
+pub staged-none : (R : IdRules) (rows : ℕ → Row) (end len : ℕ) (texts lens keys : List ℕ) → Staged R rows end len 0 0 texts lens keys texts lens keys
+unfolding first
+staged-none R rows end len texts lens keys = record { formed = formed-none R rows 0 texts lens keys refl; named = below-none _; out-is = refl }
+
+module _ (R : IdRules) (rows : ℕ → Row) (end len i out : ℕ) (texts₀ lens₀ keys₀ texts lens keys : List ℕ) (st : Staged R rows end len i out texts₀ lens₀ keys₀ texts lens keys) where
+  pub staged-room : (n : ℕ) → i < n → Room n texts₀ lens₀ keys₀ → Room (i + 1) texts lens keys
+  staged-room n h room =
+      let r = formed-room R rows i texts₀ lens₀ keys₀ texts lens keys (st .formed) n room in
+      record { texts-room = omega (arith, r .texts-room); lens-room = omega (arith, r .lens-room); keys-room = omega (arith, r .keys-room) }
+
+  -- row i, of which r holds the ID and the image
+  module _ (ids : List ℕ) (r : EntryRecord) (e : rowOf ids r ≡ rows i) (after lens-after keys-after : List ℕ) (ok : Bool) (p : Placed R (rowOf ids r .id) i texts lens keys after lens-after keys-after ok) where
+    id-is : rowOf ids r .id ≡ rows i .id
+    id-is = ap (λ z. z .id) e
+
+    pub staged-more : ok ≡ true → (next : ℕ) → next ≡ firstMore out i (outside end len (r .«image_start») (r .«image_len»)) → Staged R rows end len (i + 1) next texts₀ lens₀ keys₀ after lens-after keys-after
+    unfolding rowOf
+    staged-more y next q = record {
+      formed = formed-more R rows i texts₀ lens₀ keys₀ texts lens keys (st .formed) _ after lens-after keys-after ok id-is p y;
+      named = below-more _ i (st .named) (fine-here R rows i texts₀ lens₀ keys₀ texts lens keys (st .formed) _ after lens-after keys-after ok id-is p y);
+      out-is = q ∙ first-more out i _ _ (st .out-is) (ap (λ z. outside end len (z .offset) (z .size)) e);
+    }
+
+    pub staged-bad : (n : ℕ) → i < n → ok ≡ false → (stop 5 i ≡ rowsStop R end len n rows) × Formed R rows (first n (λ k. badId R (rows k))) texts₀ lens₀ keys₀ after lens-after keys-after
+    staged-bad n h y =
+        let b = sym (first-is n (λ k. badId R (rows k)) i h (bad-here R rows i texts₀ lens₀ keys₀ texts lens keys (st .formed) _ after lens-after keys-after ok id-is p y) (st .named)) in
+        (at-5 R rows n end len i b h, formed-is R rows i _ texts₀ lens₀ keys₀ after lens-after keys-after b (formed-bad R rows i texts₀ lens₀ keys₀ texts lens keys (st .formed) _ after lens-after keys-after ok id-is p y))
+
+-- past its last row
+module _ (R : IdRules) (L : Lawful R) (rows : ℕ → Row) (end len n i out : ℕ) (texts₀ lens₀ keys₀ texts lens keys : List ℕ) (st : Staged R rows end len i out texts₀ lens₀ keys₀ texts lens keys) (z : i ≡ n) (room : Room n texts₀ lens₀ keys₀) where
+  whole : Staged R rows end len n out texts₀ lens₀ keys₀ texts lens keys
+  whole = subst (λ k. Staged R rows end len k out texts₀ lens₀ keys₀ texts lens keys) z st
+
+  pub staged-texts : Texts R texts lens keys n
+  staged-texts = formed-texts R L rows n texts₀ lens₀ keys₀ texts lens keys room (whole .formed) (whole .named)
+
+  -- what 6 to 8 say then
+  pub staged-rest : (number place : ℕ) → (out < n → stop number place ≡ stop 6 out)
+      × (n ≤ out → stop number place ≡ stopAt 7 n (earlier (relation R true) (text texts lens)) ⨾ stopAt 8 n (earlier (relation R false) (text texts lens)))
+      → (stop number place ≡ rowsStop R end len n rows) × Formed R rows (first n (λ k. badId R (rows k))) texts₀ lens₀ keys₀ texts lens keys
+  staged-rest number place (a, b) =
+      let w = whole in
+      let none : n ≡ first n (λ k. badId R (rows k)) = sym (first-none n _ (w .named)) in (
+        byBool (ltb out n)
+            (λ t. a (ltb-true out n t) ∙ at-6 R rows n end len n none (omega arith) out (w .out-is) (ltb-true out n t))
+            (λ f.
+            let h : n ≤ out = ltb-false out n f in
+            past-6 R rows n end len n none (omega arith) out (w .out-is) h texts lens
+            (held R L rows n texts₀ lens₀ texts lens (room .texts-room) (room .lens-room) (w .formed .texts-are) (w .formed .lens-are)) _ (b h)),
+        formed-is R rows n _ texts₀ lens₀ keys₀ texts lens keys none (w .formed),
+      )
 
 -- ---- 1 to 8
 
@@ -124,7 +207,7 @@ module _ (R : IdRules) (s : List ℕ) where
     unfolding formsOf made
     head-forms h = none-left (headStop s ⨾ tableStop s) r 0 _ h (stops-first (headStop s) (tableStop s) r 0 h e)
 
-    module _ (z : r ≡ 0) (n bad end : ℕ) (rows : List EntryRecord) (q : n ≡ count s) (t : Tabled s n rows bad end) where
+    module _ (z : r ≡ 0) (n bad end : ℕ) (q : n ≡ count s) (t : Tabled s n bad end) where
       head-goes : headStop s ≡ go
       head-goes = sym e ∙ ap (λ k. stop k 0) z
 
@@ -146,29 +229,22 @@ module _ (R : IdRules) (s : List ℕ) where
           unrefused-stop (headStop s ⨾ tableStop s) _ 3 (ap (λ (u : Stop). u .number) g)
 
       module _ (none : n ≤ bad) where
-        rows-same : (k : ℕ) → k < n → rowsOf s rows k ≡ row s k
-        rows-same = rows-are s n rows (rows-all s n rows bad end t none)
-
-        pub past-4 : rowsStop R end (length s) n (rowsOf s rows) ≡ bundleStop R s
+        pub past-4 : rowsStop R end (length s) n (row s) ≡ bundleStop R s
         unfolding tableStop tableEnd
         past-4 =
-            rowsStop-same R end (length s) n (rowsOf s rows) (row s) rows-same
-            ∙ ap₂ (λ x y. rowsStop R x (length s) y (row s)) (t .end-is none ∙ ap (rowStart s) q) q
+            ap₂ (λ x y. rowsStop R x (length s) y (row s)) (t .end-is none ∙ ap (rowStart s) q) q
             ∙ past-3 _ (past 4 (count s) _ bad _ _ bad-is (omega arith) refl)
 
-        pub table-formed : (texts₀ lens₀ keys₀ texts lens keys : List ℕ) → Formed R (rowsOf s rows) (first n (λ i. badId R (rowsOf s rows i))) texts₀ lens₀ keys₀ texts lens keys → Formed R (row s) (formsOf R s) texts₀ lens₀ keys₀ texts lens keys
-        unfolding formsOf made tableStop badId
-        table-formed texts₀ lens₀ keys₀ texts lens keys =
+        pub table-forms-all : first n (λ i. badId R (row s i)) ≡ formsOf R s
+        unfolding formsOf made tableStop
+        table-forms-all =
             let g : headStop s ⨾ tableStop s ≡ go = rw head-goes (⨾-go (tableStop s) ∙ stopAt-clear 4 (count s) _ bad bad-is (omega arith)) in
-            formed-same R (rowsOf s rows) (row s) n _ _ texts₀ lens₀ keys₀ texts lens keys rows-same (first-le n _)
-            (first-same n _ _ (λ k h. ap (badId R) (rows-same k h)) ∙ ap (λ m. first m (λ i. badId R (row s i))) q
-            ∙ sym (unrefused-go (headStop s ⨾ tableStop s) _ (ap (λ (u : Stop). u .number) g)))
+            ap (λ m. first m (λ i. badId R (row s i))) q ∙ sym (unrefused-go (headStop s ⨾ tableStop s) _ (ap (λ (u : Stop). u .number) g))
 
-        pub all : (number place : ℕ) → stop number place ≡ bundleStop R s → number ≡ 0 → _≡_ {A = Examined} (record { number = number; place = place; count = n; rows = rows }) (examined R s)
+        pub all : (rows : List EntryRecord) → rows ≡ rowsIn s n → (number place : ℕ) → stop number place ≡ bundleStop R s → number ≡ 0 → _≡_ {A = Examined} (record { number = number; place = place; count = n; rows = rows }) (examined R s)
         unfolding examined
-        all number place u y =
+        all rows w number place u y =
             let c : n ≡ unrefused (bundleStop R s) (count s) = q ∙ sym (unrefused-go (bundleStop R s) (count s) (ap (λ t. t .number) (sym u) ∙ y)) in
-            let w : rows ≡ rowsIn s n = rows-all s n rows bad end t none .are in
             λ i. record { number = u i .number; place = u i .place; count = c i; rows = (w ∙ ap (rowsIn s) c) i }
 
 -- the answer of the check

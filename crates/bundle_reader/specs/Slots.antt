@@ -1,21 +1,21 @@
 -- What the code holds of a bundle between its steps. No public promise rests on this file.
 use Prim.Native.Nat.{ℕ, _+_, _*_, _<_, _≤_}
 use mathlib.Core.Path.{_≡_}
-use mathlib.Core.Bool.{Bool, true, false}
+use mathlib.Core.Bool.{Bool, true, false, _||_}
 use mathlib.Core.List.{List}
-use lib.Dec.{eqb}
-use lib.ListN.{length, getD}
-use Rattle.wire.specs.Bytes.{empty}
+use lib.Dec.{eqb, ltb}
+use lib.ListN.{length, getD, set}
+use Rattle.wire.specs.Bytes.{empty, overwrite}
 use Rattle.wire.specs.First.{first}
 use Rattle.wire.specs.Stop.{Stop, stop}
 use Rattle.entry_id.specs.Canonical.{headKey}
 use Rattle.entry_id.specs.IdRules.{IdRules}
 use Rattle.bundle.specs.Table.{Row, count, rowStart, row}
-use Rattle.bundle.specs.Check.{badRow, outside, unrefused, bundleStop}
+use Rattle.bundle.specs.Check.{badRow, badId, outside, unrefused, bundleStop}
 use Rattle.bundle.specs.Accepted.{RowFits}
-use Rattle.bundle.specs.Records.{noRecord, rowsOf, badPart}
+use Rattle.bundle.specs.Records.{noRecord, rowsOf}
 use Rattle.bundle.specs.declared.EntryRecord.{EntryRecord}
-use Rattle.bundle_reader.specs.Examined.{filled, slots, text, form, formLength, heldRow, rowsIn}
+use Rattle.bundle_reader.specs.Examined.{filled, slots, text, form, formLength, rowsIn}
 
 -- ---- rows
 
@@ -25,16 +25,14 @@ pub record Rows (s : List ℕ) (n : ℕ) (rows : List EntryRecord) : Type 0 wher
   pub fits : (k : ℕ) → k < n → RowFits s (rowStart s k)
   pub are : rows ≡ rowsIn s n
 
--- the first bad row of n, or n, with the rows before it; where none is bad, the table's end
-pub record Tabled (s : List ℕ) (n : ℕ) (rows : List EntryRecord) (bad end : ℕ) : Type 0 where
+-- the first bad row of n, or n; where none is bad, the table's end
+pub record Tabled (s : List ℕ) (n bad end : ℕ) : Type 0 where
   pub bad-is : bad ≡ first n (λ i. badRow s (rowStart s i))
   pub end-is : n ≤ bad → end ≡ rowStart s n
-  pub rows-are : Rows s bad rows
 
--- 4 of a record whose ID lies in a buffer of `len` bytes; or 6
-abbrev pub badRecord : Bool → ℕ → ℕ → EntryRecord → Bool
-badRecord true end len r = badPart len r
-badRecord false end len r = outside end len (r .«image_start») (r .«image_len»)
+-- the first of i + 1 places with a property, where r is the first of i, or i, and b says whether the last has it
+unfoldable pub firstMore : ℕ → ℕ → Bool → ℕ
+firstMore r i b = elim (ltb r i || b) [ true ↦ r | false ↦ i + 1 ]
 
 -- the ID parts of n records lie in `ids`
 pub record IdsIn (ids : List ℕ) (n : ℕ) (rows : List EntryRecord) : Type 0 where
@@ -49,11 +47,29 @@ pub record Room (n : ℕ) (texts lens keys : List ℕ) : Type 0 where
   pub lens-room : n ≤ length lens
   pub keys-room : n ≤ length keys
 
+abbrev pub setIf : Bool → List ℕ → ℕ → ℕ → List ℕ
+setIf true l i v = set l i v
+setIf false l i v = l
+
 -- the first m were made
 pub record Formed (R : IdRules) (rows : ℕ → Row) (m : ℕ) (texts₀ lens₀ keys₀ texts lens keys : List ℕ) : Type 0 where
   pub texts-are : texts ≡ slots texts₀ m (form R rows)
   pub lens-are : lens ≡ filled lens₀ m (formLength R rows)
   pub keys-are : keys ≡ filled keys₀ m (λ k. headKey (form R rows k))
+
+-- one was made, of an ID, in slot i, where it has one
+pub record Placed (R : IdRules) (id : List ℕ) (i : ℕ) (texts₀ lens₀ keys₀ texts lens keys : List ℕ) (ok : Bool) : Type 0 where
+  pub bad : ok ≡ false → empty (R .canon id) ≡ true
+  pub fine : ok ≡ true → empty (R .canon id) ≡ false
+  pub texts-are : texts ≡ overwrite texts₀ (i * 256) (R .canon id)
+  pub lens-are : lens ≡ setIf ok lens₀ i (length (R .canon id))
+  pub keys-are : keys ≡ setIf ok keys₀ i (headKey (R .canon id))
+
+-- of i rows each was made, none broke the rules, and `out` is the first row outside, or i
+pub record Staged (R : IdRules) (rows : ℕ → Row) (end len i out : ℕ) (texts₀ lens₀ keys₀ texts lens keys : List ℕ) : Type 0 where
+  pub formed : Formed R rows i texts₀ lens₀ keys₀ texts lens keys
+  pub named : (k : ℕ) → k < i → badId R (rows k) ≡ false
+  pub out-is : out ≡ first i (λ k. outside end len (rows k .offset) (rows k .size))
 
 -- slot k holds the canonical ID of row k
 pub record Held (R : IdRules) (rows : ℕ → Row) (texts lens : List ℕ) (k : ℕ) : Type 0 where

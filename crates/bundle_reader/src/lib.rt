@@ -13,18 +13,17 @@ ghost use Rattle.bundle.specs.Check.{badRow, badId, outside, headStop, rowsStop
 ghost use Rattle.bundle.specs.Pick.{pick};
 ghost use Rattle.bundle.specs.Accepted.{RowFits};
 ghost use Rattle.bundle.specs.Theorems.{refusal};
-ghost use Rattle.bundle.specs.Records.{noRecord, recordAt, rowsOf, badPart};
+ghost use Rattle.bundle.specs.Records.{noRecord, recordAt, rowOf, rowsOf, badPart};
 ghost use Rattle.canonical_form.specs.Made.{formOf};
 ghost use Rattle.bundle_reader.specs.Examined.{filled, slots, text, form, formLength, heldRow, examined, formsOf, examinedRecords, formsOfRecords};
-ghost use Rattle.bundle_reader.specs.Slots.{Tabled, badRecord, IdsIn, Room, Formed, Canonical, Texts, near, relation};
+ghost use Rattle.bundle_reader.specs.Slots.{Tabled, firstMore, IdsIn, Room, Formed, Placed, Canonical, Texts, near, relation};
 use bundle::Checked;
 use bundle::EntryRecord;
 use bundle::Picked;
 use canonical_form::Form;
 
-// The rows before the first bad one, which `bad` names; where none of them is bad, the table's end.
+// The first bad row of a table, or the count; where no row is bad, the table's end.
 struct Table {
-    rows: [EntryRecord; 64],
     bad: usize,
     end: usize,
 }
@@ -122,32 +121,21 @@ pub fn no_records() -> [EntryRecord; 64]
     [none; 64]
 }
 
-// The table of n rows, up to its first bad one.
-fn read_table(s: &[u8], n: usize) -> Table
-    requires { ⌜ (32 ≤ length (now s)) × (n ≤ 64) ⌝ }
-    ensures { λ r. ⌜ Tabled (now (s .entry)) n (r .rows) (r .bad) (r .end) ⌝ }
+// The table of n rows: its first bad row, or its end. Only lengths are read: where a row is stored, none is bad.
+fn table_end(s: &[u8], n: usize) -> Table
+    requires { ⌜ 32 ≤ length (now s) ⌝ }
+    ensures { λ r. ⌜ Tabled (now (s .entry)) n (r .bad) (r .end) ⌝ }
 {
-    let mut rows = no_records();
     let mut i: usize = 0;
     let mut at: usize = 32;
     while i < n {
         if bad_row(s, at) {
-            return Table {
-                rows: rows,
-                bad: i,
-                end: 0,
-            };
+            return Table { bad: i, end: 0 };
         }
-        let row = row_at(s, at);
-        rows[i] = row;
-        at = row.id_start + row.id_len;
+        at = at + 24 + wire::word8_at(s, at + 16) as usize;
         i += 1;
     }
-    Table {
-        rows: rows,
-        bad: i,
-        end: at,
-    }
+    Table { bad: i, end: at }
 }
 
 // 6 RANGE, of a row's image, in a container of `len` bytes. The sum is never made, so it cannot wrap.
@@ -182,29 +170,33 @@ fn bad_part(row: EntryRecord, room: usize) -> bool
     room - start < len
 }
 
-// Of a record: 4 TABLE in a buffer of IDs of `len` bytes, where `ids`; else 6 RANGE.
-fn bad_record(ids: bool, row: EntryRecord, end: usize, len: usize) -> bool
-    ensures { λ r. ⌜ r ≡ badRecord ids end len row ⌝ }
-{
-    if ids {
-        return bad_part(row, len);
-    }
-    outside_row(row, end, len)
-}
-
-// The first of n records that is bad, or n.
-fn first_bad(ids: bool, rows: [EntryRecord; 64], n: usize, end: usize, len: usize) -> usize
+// 4 TABLE: the first of n records whose ID does not lie in a buffer of `room` bytes, or n.
+fn first_bad_part(rows: [EntryRecord; 64], n: usize, room: usize) -> usize
     requires { ⌜ n ≤ 64 ⌝ }
-    ensures { λ r. ⌜ r ≡ first n (λ i. badRecord ids end len (recordAt rows i)) ⌝ }
+    ensures { λ r. ⌜ r ≡ first n (λ i. badPart room (recordAt rows i)) ⌝ }
 {
     let mut i: usize = 0;
     while i < n {
-        if bad_record(ids, rows[i], end, len) {
+        if bad_part(rows[i], room) {
             return i;
         }
         i += 1;
     }
     i
+}
+
+// 6 RANGE: the first outside of i rows and the next one, where that of the i rows is `first`.
+fn first_outside(first: usize, i: usize, row: EntryRecord, end: usize, len: usize) -> usize
+    requires { ⌜ i < 64 ⌝ }
+    ensures { λ r. ⌜ r ≡ firstMore first i (outside end len (row .«image_start») (row .«image_len»)) ⌝ }
+{
+    if first < i {
+        return first;
+    }
+    if outside_row(row, end, len) {
+        return first;
+    }
+    i + 1
 }
 
 // The canonical form of the ID of `len` bytes at `start`, to slot i; of length 0 where the ID breaks the rules.
@@ -216,31 +208,26 @@ fn canonical_at(s: &[u8], start: usize, len: usize, texts: &mut [u8], i: usize) 
     canonical_form::canonical(&s[start..start + len], &mut texts[from..from + 256])
 }
 
-// 5 ID: the first row of n whose ID breaks the rules, or n. Each canonical form is made once, in its slot.
-fn canonicals(
+// 5 ID: whether a row's ID keeps the rules; then slot i has its canonical form, with the length and the number beside it.
+fn place_form(
     ids: &[u8],
-    rows: [EntryRecord; 64],
-    n: usize,
+    row: EntryRecord,
     texts: &mut [u8],
     lens: &mut [usize],
     keys: &mut [u64],
-) -> usize
-    requires { ⌜ IdsIn (now ids) n rows × Room n (now texts) (now lens) (now keys) ⌝ }
-    ensures { λ r. ⌜ (r ≡ first n (λ i. badId idRules (rowsOf (now (ids .entry)) rows i))) × Formed idRules (rowsOf (now (ids .entry)) rows) r (now (texts .entry)) (now (lens .entry)) (now (keys .entry)) (now (texts .exit)) (now (lens .exit)) (now (keys .exit)) ⌝ }
+    i: usize,
+) -> bool
+    requires { ⌜ (row .«id_start» + row .«id_len» ≤ length (now ids)) × Room (i + 1) (now texts) (now lens) (now keys) × (i < 64) ⌝ }
+    ensures { λ r. ⌜ Placed idRules (rowOf (now (ids .entry)) row .id) i (now (texts .entry)) (now (lens .entry)) (now (keys .entry)) (now (texts .exit)) (now (lens .exit)) (now (keys .exit)) r ⌝ }
 {
-    let mut i: usize = 0;
-    while i < n {
-        let row = rows[i];
-        let made = canonical_at(ids, row.id_start, row.id_len, texts, i);
-        let len = made.length;
-        if len == 0 {
-            return i;
-        }
-        lens[i] = len;
-        keys[i] = made.key;
-        i += 1;
+    let made = canonical_at(ids, row.id_start, row.id_len, texts, i);
+    let len = made.length;
+    if len == 0 {
+        return false;
     }
-    i
+    lens[i] = len;
+    keys[i] = made.key;
+    true
 }
 
 // The text of slot k: the slots of `texts` have 256 bytes each, `lens` has the lengths of what they hold.
@@ -364,6 +351,9 @@ fn compare(texts: &[u8], lens: &[usize], keys: &[u64], n: usize) -> Refusal
     requires { ⌜ Texts idRules (now texts) (now lens) (now keys) n × (n ≤ 64) ⌝ }
     ensures { λ r. ⌜ stop (r .number) (r .place) ≡ stopAt 7 n (earlier (relation idRules true) (text (now (texts .entry)) (now (lens .entry)))) ⨾ stopAt 8 n (earlier (relation idRules false) (text (now (texts .entry)) (now (lens .entry)))) ⌝ }
 {
+    if n < 2 {
+        return refused(0, 0);
+    }
     let froms = nears(keys, n);
     let twice = first_related(true, texts, lens, keys, &froms, n);
     if twice < n {
@@ -376,29 +366,41 @@ fn compare(texts: &[u8], lens: &[usize], keys: &[u64], n: usize) -> Refusal
     refused(0, 0)
 }
 
-// 5 to 8: the first that refuses n rows, in a container of `len` bytes whose table ends at `end`; else 0.
+// 6 to 8: the first that refuses n slots, of whose rows `out` is the first outside, or n; else 0.
+fn relate(out: usize, texts: &[u8], lens: &[usize], keys: &[u64], n: usize) -> Refusal
+    requires { ⌜ Texts idRules (now texts) (now lens) (now keys) n × (n ≤ 64) ⌝ }
+    ensures { λ r. ⌜ (out < n → stop (r .number) (r .place) ≡ stop 6 out) × (n ≤ out → stop (r .number) (r .place) ≡ stopAt 7 n (earlier (relation idRules true) (text (now (texts .entry)) (now (lens .entry)))) ⨾ stopAt 8 n (earlier (relation idRules false) (text (now (texts .entry)) (now (lens .entry))))) ⌝ }
+{
+    if out < n {
+        return refused(6, out);
+    }
+    compare(texts, lens, keys, n)
+}
+
+// 5 to 8: the first that refuses n records, with images in a buffer of `len` bytes; else 0.
 fn judge(
     ids: &[u8],
     rows: [EntryRecord; 64],
     n: usize,
-    end: usize,
     len: usize,
     texts: &mut [u8],
     lens: &mut [usize],
     keys: &mut [u64],
 ) -> Refusal
     requires { ⌜ IdsIn (now ids) n rows × Room n (now texts) (now lens) (now keys) ⌝ }
-    ensures { λ r. ⌜ (stop (r .number) (r .place) ≡ rowsStop idRules end len n (rowsOf (now (ids .entry)) rows)) × Formed idRules (rowsOf (now (ids .entry)) rows) (first n (λ i. badId idRules (rowsOf (now (ids .entry)) rows i))) (now (texts .entry)) (now (lens .entry)) (now (keys .entry)) (now (texts .exit)) (now (lens .exit)) (now (keys .exit)) ⌝ }
+    ensures { λ r. ⌜ (stop (r .number) (r .place) ≡ rowsStop idRules 0 len n (rowsOf (now (ids .entry)) rows)) × Formed idRules (rowsOf (now (ids .entry)) rows) (first n (λ i. badId idRules (rowsOf (now (ids .entry)) rows i))) (now (texts .entry)) (now (lens .entry)) (now (keys .entry)) (now (texts .exit)) (now (lens .exit)) (now (keys .exit)) ⌝ }
 {
-    let bad_id = canonicals(ids, rows, n, texts, lens, keys);
-    if bad_id < n {
-        return refused(5, bad_id);
+    let mut i: usize = 0;
+    let mut out: usize = 0;
+    while i < n {
+        let row = rows[i];
+        if !place_form(ids, row, texts, lens, keys, i) {
+            return refused(5, i);
+        }
+        out = first_outside(out, i, row, 0, len);
+        i += 1;
     }
-    let out = first_bad(false, rows, n, end, len);
-    if out < n {
-        return refused(6, out);
-    }
-    compare(texts, lens, keys, n)
+    relate(out, texts, lens, keys, n)
 }
 
 fn examine_records_in(
@@ -416,11 +418,11 @@ fn examine_records_in(
     if 64 < n {
         return refused(3, 0);
     }
-    let bad = first_bad(true, rows, n, 0, ids.len());
+    let bad = first_bad_part(rows, n, ids.len());
     if bad < n {
         return refused(4, bad);
     }
-    judge(ids, rows, n, 0, len, texts, lens, keys)
+    judge(ids, rows, n, len, texts, lens, keys)
 }
 
 // 3 to 8 of n records, with IDs in `ids` and images in a buffer of `len` bytes: the first that refuses them; else 0, and the canonical IDs in their slots.
@@ -461,13 +463,27 @@ fn examine_in(s: &[u8], texts: &mut [u8], lens: &mut [usize], keys: &mut [u64]) 
         return not_examined(first, 0);
     }
     let n = wire::word8_at(s, 24) as usize;
-    let t = read_table(s, n);
+    let t = table_end(s, n);
     let bad = t.bad;
     if bad < n {
         return not_examined(4, bad);
     }
-    let rows = t.rows;
-    let r = judge(s, rows, n, t.end, s.len(), texts, lens, keys);
+    let end = t.end;
+    let mut rows = no_records();
+    let mut i: usize = 0;
+    let mut at: usize = 32;
+    let mut out: usize = 0;
+    while i < n {
+        let row = row_at(s, at);
+        at = row.id_start + row.id_len;
+        if !place_form(s, row, texts, lens, keys, i) {
+            return not_examined(5, i);
+        }
+        out = first_outside(out, i, row, end, s.len());
+        rows[i] = row;
+        i += 1;
+    }
+    let r = relate(out, texts, lens, keys, n);
     let number = r.number;
     if 0 < number {
         return not_examined(number, r.place);
@@ -507,12 +523,14 @@ fn check_in(s: &[u8], texts: &mut [u8], lens: &mut [usize], keys: &mut [u64]) ->
 pub fn check(bundle: &[u8]) -> Checked
     ensures { λ r. ⌜ r ≡ check idRules (now (bundle .entry)) ⌝ }
 {
-    let mut lens = [0usize; 64];
-    let mut keys = [0u64; 64];
     if wire::word8_at(bundle, 24) <= 8 {
         let mut few = [0u8; 2048];
-        return check_in(bundle, &mut few, &mut lens, &mut keys);
+        let mut few_lens = [0usize; 8];
+        let mut few_keys = [0u64; 8];
+        return check_in(bundle, &mut few, &mut few_lens, &mut few_keys);
     }
+    let mut lens = [0usize; 64];
+    let mut keys = [0u64; 64];
     let mut texts = [0u8; 16384];
     check_in(bundle, &mut texts, &mut lens, &mut keys)
 }
@@ -596,8 +614,7 @@ fn pick_in(
     if n <= i {
         return no_image(10, 0);
     }
-    let rows = e.rows;
-    let row = rows[i];
+    let row = e.rows[i];
     Picked {
         number: 0,
         place: 0,
@@ -611,13 +628,22 @@ fn pick_in(
 pub fn pick(bundle: &[u8], device: &[u8]) -> Picked
     ensures { λ r. ⌜ r ≡ pick idRules (now (bundle .entry)) (now (device .entry)) ⌝ }
 {
-    let mut lens = [0usize; 64];
-    let mut keys = [0u64; 64];
     let mut name = [0u8; 256];
     if wire::word8_at(bundle, 24) <= 8 {
         let mut few = [0u8; 2048];
-        return pick_in(bundle, device, &mut few, &mut lens, &mut keys, &mut name);
+        let mut few_lens = [0usize; 8];
+        let mut few_keys = [0u64; 8];
+        return pick_in(
+            bundle,
+            device,
+            &mut few,
+            &mut few_lens,
+            &mut few_keys,
+            &mut name,
+        );
     }
+    let mut lens = [0usize; 64];
+    let mut keys = [0u64; 64];
     let mut texts = [0u8; 16384];
     pick_in(bundle, device, &mut texts, &mut lens, &mut keys, &mut name)
 }

@@ -13,21 +13,21 @@ refused-requires c κs = search needs
 returns : tie.Need-returns
 returns c = (c .refused .ensures ∙ records-many idRules _ _ _ _ (c .before .if1 .taken), formed-none idRules _ _ _ _ _ (many-forms idRules _ 0 _ _ (c .before .if1 .taken)))
 
-first-bad-requires : tie.Need-first-bad-requires
-first-bad-requires c κs = search needs
+first-bad-part-requires : tie.Need-first-bad-part-requires
+first-bad-part-requires c κs = search needs
 
 refused-requires-2 : tie.Need-refused-requires-2
 refused-requires-2 c κs = search needs
 
 returns-2 : tie.Need-returns-2
 returns-2 c = (
-  c .refused2 .ensures ∙ records-part idRules _ _ _ _ (c .before .before .before .if1 .left) _ (c .before .before .first-bad .ensures) (c .before .if2 .taken),
-  formed-none idRules _ _ _ _ _ (part-forms idRules _ 0 _ _ (c .before .before .before .if1 .left) _ (c .before .before .first-bad .ensures) (c .before .if2 .taken)),
+  c .refused2 .ensures ∙ records-part idRules _ _ _ _ (c .before .before .before .if1 .left) _ (c .before .before .first-bad-part .ensures) (c .before .if2 .taken),
+  formed-none idRules _ _ _ _ _ (part-forms idRules _ 0 _ _ (c .before .before .before .if1 .left) _ (c .before .before .first-bad-part .ensures) (c .before .if2 .taken)),
 )
 
 judge-requires : tie.Need-judge-requires
 judge-requires c κs = let r = c .before .before .before .before .before .before .before .before .before .before .pre in (
-  records-in idRules _ 0 _ _ (c .before .before .before .before .before .if1 .left) _ (c .before .before .before .before .first-bad .ensures) (c .before .before .before .if2 .left),
+  records-in idRules _ 0 _ _ (c .before .before .before .before .before .if1 .left) _ (c .before .before .before .before .first-bad-part .ensures) (c .before .before .before .if2 .left),
   record { texts-room = omega (arith, r .texts-room, c .before .before .before .before .before .if1 .left); lens-room = omega (arith, r .lens-room, c .before .before .before .before .before .if1 .left); keys-room = omega (arith, r .keys-room, c .before .before .before .before .before .if1 .left) },
 )
 
@@ -42,8 +42,8 @@ same-length-3 c = search needs
 
 returns-3 : tie.Need-returns-3
 returns-3 c = let j = c .before .before .before .before .before .before .judge .ensures in (
-  records-rest idRules _ _ _ _ (c .before .before .before .before .before .before .before .before .before .before .before .before .if1 .left) _ (c .before .before .before .before .before .before .before .before .before .before .before .first-bad .ensures) (c .before .before .before .before .before .before .before .before .before .before .if2 .left) _ _ (j .0),
-  formed-is idRules _ _ _ _ _ _ _ _ _ (sym (rest-forms idRules _ 0 _ _ (c .before .before .before .before .before .before .before .before .before .before .before .before .if1 .left) _ (c .before .before .before .before .before .before .before .before .before .before .before .first-bad .ensures) (c .before .before .before .before .before .before .before .before .before .before .if2 .left))) (j .1),
+  records-rest idRules _ _ _ _ (c .before .before .before .before .before .before .before .before .before .before .before .before .if1 .left) _ (c .before .before .before .before .before .before .before .before .before .before .before .first-bad-part .ensures) (c .before .before .before .before .before .before .before .before .before .before .if2 .left) _ _ (j .0),
+  formed-is idRules _ _ _ _ _ _ _ _ _ (sym (rest-forms idRules _ 0 _ _ (c .before .before .before .before .before .before .before .before .before .before .before .before .if1 .left) _ (c .before .before .before .before .before .before .before .before .before .before .before .first-bad-part .ensures) (c .before .before .before .before .before .before .before .before .before .before .if2 .left))) (j .1),
 )
 
 pub examine-records-in-spec : {M : Type 1} → statement M
@@ -52,7 +52,7 @@ examine-records-in-spec =
     (tie.spec
     refused-requires
     returns
-    first-bad-requires
+    first-bad-part-requires
     refused-requires-2
     returns-2
     judge-requires

@@ -91,11 +91,11 @@ returns-3 c = let x = examination-of idRules idRules-lawful _ _ _ _ _ _ _ _ (c .
     c .no-image3 .ensures ∙ picked-none idRules idRules-lawful _ (c .before .before .before .before .before .before .before .before .before .before .before .before .before .before .before .before .before .before .before .before .before .before .before .before .before .before .before .before .before .args .device .now) _ _ _ _ _ _ x (omega arith) _ (name-is _ _ _ _ (c .before .before .before .before .before .before .before .before .before .before .before .before .before .before .before .before .before .before .before .before .before .before .before .before .before .before .before .before .before .pre .1) m) (name-some _ _ _ _ (c .before .before .before .before .before .before .before .before .before .before .before .before .before .before .before .before .before .before .before .before .before .before .before .before .before .before .before .before .before .pre .1) m (c .before .before .before .before .before .before .before .if2 .left)) _ (c .before .before .first-compatible .ensures) (c .before .if3 .taken)
 
 mul-row : tie.Need-mul-row
-mul-row c = let x = examination-of idRules idRules-lawful _ _ _ _ _ _ _ _ (c .before .before .before .before .before .before .before .before .before .before .before .before .before .before .before .before .before .before .before .examine-in .ensures) (c .before .before .before .before .before .before .before .before .before .before .before .before .before .before .before .before .before .before .before .before .before .before .before .before .before .before .before .before .before .pre .0) in
+mul-row c = let x = examination-of idRules idRules-lawful _ _ _ _ _ _ _ _ (c .before .before .before .before .before .before .before .before .before .before .before .before .before .before .before .before .before .before .examine-in .ensures) (c .before .before .before .before .before .before .before .before .before .before .before .before .before .before .before .before .before .before .before .before .before .before .before .before .before .before .before .before .pre .0) in
     omega (arith, few idRules idRules-lawful _ [] _ _ _ _ _ _ x (omega arith))
 
-array-copy-out-row : tie.Need-array-copy-out-row
-array-copy-out-row c = let x = examination-of idRules idRules-lawful _ _ _ _ _ _ _ _ (c .before .before .before .before .before .before .before .before .before .before .before .before .before .before .before .before .before .before .before .examine-in .ensures) (c .before .before .before .before .before .before .before .before .before .before .before .before .before .before .before .before .before .before .before .before .before .before .before .before .before .before .before .before .before .pre .0) in
+element-copy-out-row : tie.Need-element-copy-out-row
+element-copy-out-row c = let x = examination-of idRules idRules-lawful _ _ _ _ _ _ _ _ (c .before .before .before .before .before .before .before .before .before .before .before .before .before .before .before .before .before .before .examine-in .ensures) (c .before .before .before .before .before .before .before .before .before .before .before .before .before .before .before .before .before .before .before .before .before .before .before .before .before .before .before .before .pre .0) in
     omega (arith, few idRules idRules-lawful _ [] _ _ _ _ _ _ x (omega arith))
 
 same-length-12 : tie.Need-same-length-12
@@ -111,10 +111,10 @@ same-length-15 : tie.Need-same-length-15
 same-length-15 c = search needs
 
 returns-4 : tie.Need-returns-4
-returns-4 c = let x = examination-of idRules idRules-lawful _ _ _ _ _ _ _ _ (c .before .before .before .before .before .before .before .before .before .before .before .before .before .before .before .before .before .before .before .before .examine-in .ensures) (c .before .before .before .before .before .before .before .before .before .before .before .before .before .before .before .before .before .before .before .before .before .before .before .before .before .before .before .before .before .before .pre .0) in
-    let k = c .before .before .before .before .before .before .before .before .before .before .before .canonical in
-    let m : Made (c .before .before .before .before .before .before .before .before .before .before .before .before .before .before .before .before .before .before .before .before .before .before .before .before .before .before .before .before .before .before .args .device .now) (c .before .before .before .before .before .before .before .before .before .before .before .before .before .before .before .before .before .before .before .before .before .before .before .before .before .before .before .before .before .before .args .name .now) (k .last .1 .0) (k .result) = record { form-is = k .ensures .0; text = k .ensures .1 } in
-    picked-image idRules idRules-lawful _ (c .before .before .before .before .before .before .before .before .before .before .before .before .before .before .before .before .before .before .before .before .before .before .before .before .before .before .before .before .before .before .args .device .now) _ _ _ _ _ _ x (omega arith) _ (name-is _ _ _ _ (c .before .before .before .before .before .before .before .before .before .before .before .before .before .before .before .before .before .before .before .before .before .before .before .before .before .before .before .before .before .before .pre .1) m) (name-some _ _ _ _ (c .before .before .before .before .before .before .before .before .before .before .before .before .before .before .before .before .before .before .before .before .before .before .before .before .before .before .before .before .before .before .pre .1) m (c .before .before .before .before .before .before .before .before .if2 .left)) _ (c .before .before .before .first-compatible .ensures) (c .before .before .if3 .left) _ refl
+returns-4 c = let x = examination-of idRules idRules-lawful _ _ _ _ _ _ _ _ (c .before .before .before .before .before .before .before .before .before .before .before .before .before .before .before .before .before .before .before .examine-in .ensures) (c .before .before .before .before .before .before .before .before .before .before .before .before .before .before .before .before .before .before .before .before .before .before .before .before .before .before .before .before .before .pre .0) in
+    let k = c .before .before .before .before .before .before .before .before .before .before .canonical in
+    let m : Made (c .before .before .before .before .before .before .before .before .before .before .before .before .before .before .before .before .before .before .before .before .before .before .before .before .before .before .before .before .before .args .device .now) (c .before .before .before .before .before .before .before .before .before .before .before .before .before .before .before .before .before .before .before .before .before .before .before .before .before .before .before .before .before .args .name .now) (k .last .1 .0) (k .result) = record { form-is = k .ensures .0; text = k .ensures .1 } in
+    picked-image idRules idRules-lawful _ (c .before .before .before .before .before .before .before .before .before .before .before .before .before .before .before .before .before .before .before .before .before .before .before .before .before .before .before .before .before .args .device .now) _ _ _ _ _ _ x (omega arith) _ (name-is _ _ _ _ (c .before .before .before .before .before .before .before .before .before .before .before .before .before .before .before .before .before .before .before .before .before .before .before .before .before .before .before .before .before .pre .1) m) (name-some _ _ _ _ (c .before .before .before .before .before .before .before .before .before .before .before .before .before .before .before .before .before .before .before .before .before .before .before .before .before .before .before .before .before .pre .1) m (c .before .before .before .before .before .before .before .if2 .left)) _ (c .before .before .first-compatible .ensures) (c .before .if3 .left) _ refl
 
 pub pick-in-spec : {M : Type 1} → statement M
 pick-in-spec =
@@ -143,7 +143,7 @@ pick-in-spec =
     same-length-11
     returns-3
     mul-row
-    array-copy-out-row
+    element-copy-out-row
     same-length-12
     same-length-13
     same-length-14

@@ -1,0 +1,79 @@
+use borrow.Author.Needs.{needs}
+use native.Mathlib.Omega.{arith}
+use Prim.Native.Nat.{ℕ, _+_, _-_, _≤_, _<_}
+use mathlib.Core.Path.{_≡_, refl, sym, ap, _∙_}
+use mathlib.Core.Bool.{false}
+use borrow.Author.Count.{below-more, below-none}
+use lib.ListN.{length}
+use Rattle.bundle.specs.Table.{rowStart}
+use Rattle.bundle.specs.Check.{badRow}
+use Rattle.bundle_reader.proofs.RowLaws.{fine, next-start, tabled-bad, tabled-all}
+use Rattle.bundle_reader.proofs.table_end.Statement.{statement}
+use Rattle.bundle_reader.proofs.table_end.Tie as tie
+
+abbrev Inv-loop : tie.InvT-loop
+Inv-loop s n i₀ at₀ i at = (i ≤ n) × (at ≡ rowStart s i) × (at ≤ length s) × ((k : ℕ) → k < i → badRow s (rowStart s k) ≡ false)
+
+abbrev μ-loop : tie.MeasureT-loop
+μ-loop s n i₀ at₀ i at = n - i
+
+loop-holds : tie.Need-loop-holds Inv-loop μ-loop
+unfolding rowStart
+loop-holds c = (omega arith, refl, omega arith, below-none _)
+
+bad-row-requires : tie.Need-bad-row-requires Inv-loop μ-loop
+bad-row-requires c κs = search needs
+
+returns : tie.Need-returns Inv-loop μ-loop
+returns c = let l = c .before .before .before .loop in
+    tabled-bad _ (l .i) (l .at) (l .inv .1) (l .inv .3) _ 0 _ (omega arith) (c .before .bad-row .ensures) (c .if1 .taken)
+
+add-at : tie.Need-add-at Inv-loop μ-loop
+add-at c = omega (arith, fine _ _ _ (c .before .bad-row .ensures) (c .if1 .left) .id-in)
+
+add-word8-at : tie.Need-add-word8-at Inv-loop μ-loop
+add-word8-at c = omega (arith, fine _ _ _ (c .before .bad-row .ensures) (c .if1 .left) .id-in)
+
+word8-at-requires : tie.Need-word8-at-requires Inv-loop μ-loop
+word8-at-requires c κs = search needs
+
+add-at-2 : tie.Need-add-at-2 Inv-loop μ-loop
+add-at-2 c = omega (arith, fine _ _ _ (c .before .before .bad-row .ensures) (c .before .if1 .left) .id-in, c .word8-at .ensures)
+
+add-i : tie.Need-add-i Inv-loop μ-loop
+add-i c = search needs
+
+loop-less : tie.Need-loop-less Inv-loop μ-loop
+loop-less c = search needs
+
+loop-again : tie.Need-loop-again Inv-loop μ-loop
+loop-again c = let l = c .before .before .before .before .loop in
+    let s = c .before .before .before .before .before .before .args .s .now in
+    let w = c .word8-at .ensures in (
+      omega arith,
+      ap (λ z. l .at + 24 + z) w ∙ next-start s (l .i) (l .at) (l .inv .1),
+      omega (arith, fine _ _ _ (c .before .before .bad-row .ensures) (c .before .if1 .left) .id-in, w),
+      below-more _ (l .i) (l .inv .3) (ap (badRow s) (sym (l .inv .1)) ∙ sym (c .before .before .bad-row .ensures) ∙ c .before .if1 .left),
+    )
+
+returns-2 : tie.Need-returns-2 Inv-loop μ-loop
+returns-2 c = let l = c .before .loop in
+    tabled-all _ (l .i) (l .at) (l .inv .1) (l .inv .3) _ (omega arith)
+
+pub table-end-spec : {M : Type 1} → statement M
+table-end-spec =
+    tie.close
+    (tie.spec
+    Inv-loop
+    μ-loop
+    loop-holds
+    bad-row-requires
+    returns
+    add-at
+    add-word8-at
+    word8-at-requires
+    add-at-2
+    add-i
+    loop-less
+    loop-again
+    returns-2)
