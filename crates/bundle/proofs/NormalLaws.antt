@@ -17,7 +17,7 @@ use Rattle.bundle.specs.Entry.{Entry, entries}
 use Rattle.bundle.specs.Pick.{pick}
 use Rattle.bundle.specs.Accepted.{Accepted}
 use Rattle.bundle.specs.Layout.{entrySize, packedLength, encode, Writable, ReadsBack}
-use Rattle.bundle.specs.Normal.{byId, roomStop, answer, over, output, normal, normalLength, normaliseStop, normalise, normalised, RefusalWritesNothing}
+use Rattle.bundle.specs.Normal.{byId, roomStop, answer, output, normal, normalLength, normaliseStop, normalise, normalised, RefusalWritesNothing}
 use Rattle.bundle.specs.Demand.{SamePick, Writes, Kept}
 use Rattle.bundle.proofs.AcceptLaws.{accepted-go}
 use Rattle.bundle.proofs.EntryLaws.{entries-length, entries-writable}

@@ -12,7 +12,7 @@ use Rattle.wire.proofs.ListLaws.{at-member}
 use Rattle.entry_id.specs.IdRules.{IdRules, Lawful}
 use Rattle.bundle.specs.Table.{count, row}
 use Rattle.bundle.specs.Entry.{Entry, noEntry, imageOf, entryOf, entries}
-use Rattle.bundle.specs.Pick.{compatibleAt, chosen, pickStop, pick}
+use Rattle.bundle.specs.Pick.{compatibleAt, chosen, pickStop}
 use Rattle.bundle.specs.Accepted.{Accepted}
 use Rattle.bundle.specs.Demand.{pickedImage}
 use Rattle.bundle.proofs.EntryLaws.{entries-length, entries-at, entry-of}

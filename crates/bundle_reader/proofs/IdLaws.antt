@@ -8,7 +8,6 @@ use lib.ListN.{length, getD, take, drop, length-drop}
 use lib.Seq.{length-take-le, take-at}
 use mathlib.Core.Bool.{Bool, true, false}
 use borrow.Author.Tests.{eqb-false}
-use Rattle.wire.specs.First.{first}
 use Rattle.wire.proofs.FirstLaws.{first-le, first-before}
 use Rattle.wire.proofs.Bools.{byBool}
 use Rattle.entry_id.proofs.KeyLaws.{key-same, key-mixed, key-compatible}

@@ -13,7 +13,6 @@ use Rattle.wire.specs.Stop.{Stop, go, stop, _⨾_, stopAt, earlier}
 use Rattle.wire.proofs.Bools.{byBool, or-true, neither-or}
 use Rattle.wire.proofs.FirstLaws.{first-le, first-before, first-at, first-is, first-none, any-same}
 use Rattle.wire.proofs.StopLaws.{⨾-go, ⨾-stop, ⨾-next, ⨾-left, ⨾-right, stopAt-same, stopAt-found, stopAt-clear, earlier-none}
-use Rattle.entry_id.specs.Canonical.{headKey}
 use Rattle.entry_id.specs.IdRules.{IdRules, Lawful}
 use Rattle.bundle.specs.Table.{Row, count, rowStart, row, tableEnd}
 use Rattle.bundle.specs.Check.{badRow, badId, outside, meanSame, mix, unrefused, headStop, tableStop, rowsStop, bundleStop, check}

@@ -1,5 +1,5 @@
 -- Cutting a text at its runs of field bytes. Assumes nothing.
-use Prim.Native.Nat.{ℕ, suc, _+_, _-_, _≤_, _<_}
+use Prim.Native.Nat.{ℕ, suc, _+_, _≤_, _<_}
 use mathlib.Core.Path.{_≡_, refl, sym, ap, _∙_, subst}
 use mathlib.Core.Logic.{inl, inr, _≢_}
 use mathlib.Core.Bool.{Bool, true, false, _&&_}
@@ -10,7 +10,6 @@ use lib.Dec.{T, eqb, ltb, eqb→eq}
 use borrow.Author.Tests.{eqb-true, eqb-false, ne-eqb, lt-ltb, le-ltb}
 use Rattle.wire.specs.Lists.{every}
 use Rattle.entry_id.specs.Text.{splitOn, onFirst}
-use Rattle.wire.specs.Bytes.{same}
 use Rattle.wire.proofs.Bools.{and-l, and-r, is-false, cases}
 use Rattle.entry_id.proofs.TextLaws.{split-last, split-skip, split-some}
 use Rattle.entry_id.specs.Meaning.{fieldsOf, piecesOf, fieldByte, nameByte}

@@ -2,8 +2,7 @@
 use Rattle.canonical_form.specs.declared.Form.{Form}
 use Rattle.canonical_form.specs.Made.{formOf}
 use Rattle.entry_id.proofs.CanonicalLaws.{head-canon}
-use Rattle.wire.specs.Word.{word}
-use Prim.Native.Nat.{ℕ, suc, _+_, _-_, _≤_, _<_}
+use Prim.Native.Nat.{ℕ, suc, _+_, _≤_, _<_}
 use mathlib.Core.Path.{_≡_, refl, sym, ap, _∙_, subst}
 use mathlib.Core.Logic.{inl, inr}
 use mathlib.Core.Bool.{Bool, true, false, not, _&&_, _||_, cond}
@@ -21,7 +20,7 @@ use Rattle.wire.specs.Bytes.{same, empty, before}
 use Rattle.wire.proofs.Bools.{and-l, and-r, and-t, or-t, or-l, or-r, is-true, is-false, of-true, cond-ind, cases}
 use Rattle.entry_id.proofs.TextLaws.{split-some, join-split}
 use Rattle.entry_id.specs.Meaning.{byName, Feature, fieldsOf, piecesOf, feature, meaningOf, meaning, piece, sixFields, canonicalOf, fieldByte, kinds, signed, named, shaped, proper, valid, canon}
-use Rattle.entry_id.proofs.ReadBack.{parts, canon-is, canon-refused}
+use Rattle.entry_id.proofs.ReadBack.{canon-is, canon-refused}
 use Rattle.entry_id.proofs.CompareLaws.{piece-feature, valid-signed}
 use Rattle.canonical_form.specs.Scan.{part, HeadAt, piecesAt}
 use Rattle.canonical_form.specs.Spans.{pieceOk, good, pieceAt, atOf, signOf, nameOf, chunkOf, chunks, Pieces, headText, PlanAt, PlanIs}

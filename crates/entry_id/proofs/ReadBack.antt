@@ -12,7 +12,7 @@ use lib.Dec.{T, eqb, leb, eqb→eq, le→leb, leb→le}
 use Rattle.wire.proofs.SortLaws.{sort-rising}
 use Rattle.wire.specs.Lists.{any, every}
 use Rattle.wire.specs.Order.{risingBy, sortBy}
-use Rattle.wire.specs.Bytes.{bytes, empty, same, before}
+use Rattle.wire.specs.Bytes.{empty, same}
 use Rattle.entry_id.specs.Text.{splitOn, joinWith, notColon}
 use Rattle.wire.proofs.Bools.{and-l, and-r, and-t, or-t, or-l, is-true, is-false, of-true, cases}
 use Rattle.entry_id.proofs.TextLaws.{every-imp, every-append, split-join}

@@ -1,10 +1,10 @@
 -- Laws of texts: every byte, cutting and joining. Assumes nothing.
-use Prim.Native.Nat.{ℕ, _+_, _-_}
+use Prim.Native.Nat.{ℕ, _+_}
 use mathlib.Core.Path.{_≡_, refl, sym, ap, _∙_, subst}
 use mathlib.Core.Bool.{Bool, true, false}
 use mathlib.Core.List.{List, [], _∷_, _++_}
 use lib.Dec.{T, eqb, eqb→eq, eqb-refl}
-use Rattle.wire.specs.Lists.{any, every}
+use Rattle.wire.specs.Lists.{every}
 use Rattle.wire.proofs.Bools.{and-l, and-r, and-t, is-true, is-false, cond-ind, cond-case}
 use Rattle.entry_id.specs.Text.{onFirst, splitOn, joinWith}
 

@@ -7,7 +7,7 @@ use mathlib.Core.List.{List, [], _∷_, _++_, map}
 use lib.ListN.{length, getD, take, drop}
 use lib.Dec.{eqb, leb}
 use Rattle.wire.specs.Lists.{any, every}
-use Rattle.wire.specs.Bytes.{bytes, empty, same, before}
+use Rattle.wire.specs.Bytes.{bytes, empty, same}
 use Rattle.wire.specs.Order.{sortBy, risingBy}
 use Rattle.entry_id.specs.Text.{splitOn, joinWith}
 

@@ -1,7 +1,7 @@
 -- Document 01's examples that are marked to be proved ("Bench pieces", marked *): one table under one claim. Statements only.
 use Prim.Native.Nat.{ℕ}
 use mathlib.Core.Path.{_≡_}
-use mathlib.Core.Bool.{Bool, true, false}
+use mathlib.Core.Bool.{true, false}
 use mathlib.Core.List.{List, [], _∷_, _++_}
 use lib.ListN.{length, replicate}
 use Rattle.wire.specs.Bytes.{bytes}
@@ -9,7 +9,7 @@ use Rattle.wire.specs.Word.{bytesOf}
 use Rattle.entry_id.specs.Meaning.{meaning, canon}
 use Rattle.entry_id.specs.Compare.{compatible}
 use Rattle.entry_id.specs.Rules.{idRules}
-use Rattle.bundle.specs.Table.{Row, magic, tableEnd}
+use Rattle.bundle.specs.Table.{magic, tableEnd}
 use Rattle.bundle.specs.Check.{check}
 use Rattle.bundle.specs.Layout.{bundle}
 use Rattle.bundle.specs.Normal.{normal, normalLength}

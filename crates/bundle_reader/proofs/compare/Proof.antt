@@ -1,5 +1,4 @@
 use borrow.Author.Needs.{needs}
-use native.Mathlib.Omega.{arith}
 use mathlib.Core.Path.{ap, _∙_}
 use Rattle.wire.specs.Stop.{stop}
 use Rattle.bundle_reader.specs.declared.Refusal.{Refusal}

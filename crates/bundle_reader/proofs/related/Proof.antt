@@ -1,4 +1,4 @@
-use mathlib.Core.Path.{_≡_, sym, _∙_}
+use mathlib.Core.Path.{sym, _∙_}
 use native.Mathlib.Omega.{arith}
 use Rattle.bundle_reader.proofs.IdLaws.{same-is, mixed-is, unrelated}
 use borrow.Author.Needs.{needs}

@@ -1,5 +1,5 @@
 -- `canonical_form::canonical` meets its contract. Assumes nothing.
-use Prim.Native.Nat.{_+_, _-_, _≤_}
+use Prim.Native.Nat.{_+_, _≤_}
 use mathlib.Core.Path.{sym, _∙_, ap}
 use lib.ListN.{length}
 use lib.Seq.{length-take-le}
