@@ -20,7 +20,7 @@ LLVM := llvm
 test: tools
 	rt fmt --check
 	kept=$$(mktemp -d); trap 'rm -rf "$$kept"' EXIT; \
-	$(MAKE) --no-print-directory second-test >"$$kept/second" 2>&1 & \
+	nice $(MAKE) --no-print-directory second-test >"$$kept/second" 2>&1 & \
 	RT_JOBS=6 rt ci | tee "$$kept/verdict"; \
 	wait $$! || { cat "$$kept/second"; exit 1; }; \
 	cat "$$kept/second"; \

@@ -49,11 +49,15 @@ stopAt-le : (k m : ℕ) (p : ℕ → Bool) (n : ℕ) → k ≤ n → stopAt k m 
 unfolding stopAt
 stopAt-le k m p n h = stopWhen-le (anyBelow m p) (stop k (first m p)) n h
 
+pub headStop-le : (s : List ℕ) → headStop s .number ≤ 3
+unfolding headStop
+headStop-le s = ⨾-le _ _ 3 (stopIf-le 1 _ 3 (omega arith)) (⨾-le _ _ 3 (stopIf-le 2 _ 3 (omega arith)) (stopIf-le 3 _ 3 (omega arith)))
+
 pub bundleStop-le : (R : IdRules) (s : List ℕ) → bundleStop R s .number ≤ 8
-unfolding bundleStop headStop tableStop rowsStop
+unfolding bundleStop tableStop rowsStop
 bundleStop-le R s =
     ⨾-le _ _ 8
-    (⨾-le _ _ 8 (stopIf-le 1 _ 8 (omega arith)) (⨾-le _ _ 8 (stopIf-le 2 _ 8 (omega arith)) (stopIf-le 3 _ 8 (omega arith))))
+    (omega (arith, headStop-le s))
     (⨾-le _ _ 8 (stopAt-le 4 _ _ 8 (omega arith))
     (⨾-le _ _ 8 (stopAt-le 5 _ _ 8 (omega arith)) (⨾-le _ _ 8 (stopAt-le 6 _ _ 8 (omega arith)) (⨾-le _ _ 8 (stopAt-le 7 _ _ 8 (omega arith)) (stopAt-le 8 _ _ 8 (omega arith))))))
 

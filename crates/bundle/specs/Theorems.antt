@@ -2,14 +2,14 @@
 use Prim.Native.Nat.{ℕ, suc, _+_, _<_, _≤_}
 use mathlib.Core.Path.{_≡_}
 use mathlib.Core.Logic.{_↔_}
-use mathlib.Core.Bool.{true, false}
+use mathlib.Core.Bool.{Bool, true, false}
 use mathlib.Core.List.{List}
 use lib.ListN.{length, getD, take, drop}
 use Rattle.wire.specs.Bytes.{empty}
 use Rattle.entry_id.specs.IdRules.{IdRules}
-use Rattle.bundle.specs.Table.{count, row, tableEnd}
+use Rattle.bundle.specs.Table.{Row, count, rowStart, row, tableEnd}
 use Rattle.wire.specs.Stop.{_⨾_}
-use Rattle.bundle.specs.Check.{headStop, tableStop, check}
+use Rattle.bundle.specs.Check.{badRow, badId, outside, meanSame, mix, headStop, tableStop, check}
 use Rattle.bundle.specs.Entry.{noEntry, entries}
 use Rattle.bundle.specs.Pick.{compatibleAt, pick}
 use Rattle.bundle.specs.Accepted.{Framed, Accepted}
@@ -22,6 +22,26 @@ pub record CheckExact (R : IdRules) (s : List ℕ) : Type 0 where
   pub counted : Accepted R s → check R s ≡ record { number = 0; place = 0; count = count s }
   -- "A refusal .. has 0 in every other returned number"
   pub uncounted : (k : ℕ) → check R s .number ≡ suc k → check R s .count ≡ 0
+
+-- i is the lowest entry index, of n, that a refusal applies to
+pub record Lowest (applies : ℕ → Type 0) (n i : ℕ) : Type 0 where
+  pub entry : i < n
+  pub here : applies i
+  pub lower : (k : ℕ) → k < i → applies k → ⊥
+
+-- "an earlier entry" stands in the relation to entry i
+pub record Earlier (related : Row → Row → Bool) (rows : ℕ → Row) (i : ℕ) : Type 0 where
+  pub other : ℕ
+  pub before : other < i
+  pub are : related (rows other) (rows i) ≡ true
+
+-- "each of 4 to 8 is tried over all entries before the next, and the place is the lowest entry index it applies to"
+pub record PlaceExact (R : IdRules) (s : List ℕ) : Type 0 where
+  pub table : check R s .number ≡ 4 → Lowest (λ i. badRow s (rowStart s i) ≡ true) (count s) (check R s .place)
+  pub id : check R s .number ≡ 5 → Lowest (λ i. badId R (row s i) ≡ true) (count s) (check R s .place)
+  pub range : check R s .number ≡ 6 → Lowest (λ i. outside (tableEnd s) (length s) (row s i .offset) (row s i .size) ≡ true) (count s) (check R s .place)
+  pub twice : check R s .number ≡ 7 → Lowest (Earlier (meanSame R) (row s)) (count s) (check R s .place)
+  pub mixed : check R s .number ≡ 8 → Lowest (Earlier (mix R) (row s)) (count s) (check R s .place)
 
 -- a pick's refusal
 abbrev pub refusal : ℕ → ℕ → Picked
