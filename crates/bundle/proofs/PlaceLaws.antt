@@ -12,8 +12,8 @@ use Rattle.wire.proofs.Bools.{byBool, clash}
 use Rattle.wire.proofs.FirstLaws.{first-at, first-before, any-some}
 use Rattle.wire.proofs.StopLaws.{⨾-stop, ⨾-next}
 use Rattle.entry_id.specs.IdRules.{IdRules}
-use Rattle.bundle.specs.Table.{Row, count, rowStart, row, tableEnd}
-use Rattle.bundle.specs.Check.{badRow, badId, outside, meanSame, mix, headStop, tableStop, rowsStop, bundleStop, check}
+use Rattle.bundle.specs.Table.{Row, count, row, tableEnd}
+use Rattle.bundle.specs.Check.{badId, outside, meanSame, mix, headStop, tableStop, rowsStop, bundleStop, check}
 use Rattle.bundle.specs.Theorems.{Lowest, Earlier, PlaceExact}
 use Rattle.bundle.proofs.CheckLaws.{headStop-le}
 

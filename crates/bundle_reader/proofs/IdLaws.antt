@@ -1,5 +1,5 @@
 -- The functions of `canonical_form` on what the code holds: room of 256 bytes, and canonical forms. Assumes nothing.
-use Prim.Native.Nat.{ℕ, _+_, _*_, _<_, _≤_}
+use Prim.Native.Nat.{ℕ, _+_, _*_, _-_, _<_, _≤_}
 use native.Mathlib.Omega.{arith}
 use mathlib.Core.Path.{_≡_, refl, sym, ap, ap₂, _∙_}
 use mathlib.Core.List.{List, _++_}
@@ -7,7 +7,8 @@ use lib.Dec.{eqb}
 use lib.ListN.{length, getD, take, drop, length-drop}
 use lib.Seq.{length-take-le, take-at}
 use mathlib.Core.Bool.{Bool, true, false}
-use borrow.Author.Tests.{eqb-false}
+use borrow.Author.Tests.{eq-eqb, eqb-false}
+use Rattle.wire.specs.First.{first}
 use Rattle.wire.proofs.FirstLaws.{first-le, first-before}
 use Rattle.wire.proofs.Bools.{byBool}
 use Rattle.entry_id.proofs.KeyLaws.{key-same, key-mixed, key-compatible}
@@ -19,7 +20,7 @@ use Rattle.entry_id.specs.Canonical.{headKey, canonicalIn, sameText, mixedText,
 use Rattle.entry_id.specs.Rules.{idRules}
 use Rattle.entry_id.proofs.RuleLaws.{idRules-lawful, canonical-whole, same-rules, mixed-rules, compatible-rules}
 use Rattle.bundle_reader.specs.Slots.{Canonical, Texts, near, relation}
-use Rattle.bundle_reader.proofs.SlotLaws.{length-empty, length-some, slot-written}
+use Rattle.bundle_reader.proofs.SlotLaws.{length-empty, length-some, slot-written, more-here, first-more}
 
 -- what `canonical` leaves of an ID x in the room that it was lent
 pub record Made (x before after : List ℕ) (made : Form) : Type 0 where
@@ -118,3 +119,15 @@ unrelated-before twice texts lens keys i t k h =
     let q = t .each i (omega arith) in
     unrelated (text texts lens k) (text texts lens i) (p .canonical) (q .canonical)
     (λ e. eqb-false _ _ (first-before i (λ j. eqb (getD keys j 0) (getD keys i 0)) k h) (p .key ∙ e ∙ sym (q .key))) twice
+
+-- the slot before has the same number
+pub near-same : (keys : List ℕ) (i : ℕ) → 0 < i → getD keys (i - 1) 0 ≡ getD keys i 0 → near keys (i - 1) ≡ near keys i
+unfolding near
+near-same keys i h e =
+    let m = i - 1 in
+    let p : ℕ → Bool = λ j. eqb (getD keys j 0) (getD keys i 0) in
+    let k : m + 1 ≡ i = omega arith in
+    ap (λ z. first m (λ j. eqb (getD keys j 0) z)) e
+    ∙ sym (more-here (first m p) m (p m) (eq-eqb _ _ e))
+    ∙ first-more (first m p) m p (p m) refl refl
+    ∙ ap (λ z. first z p) k

@@ -3,16 +3,17 @@ use Prim.Native.Nat.{ℕ, zero, suc, _+_, _*_, _≤_, _<_}
 use native.Mathlib.Omega.{arith}
 use native.Mathlib.Numerals.{add-one}
 use mathlib.Core.Path.{_≡_, refl, sym, ap, ap₂, _∙_}
-use mathlib.Core.Bool.{Bool, true, false}
+use mathlib.Core.Bool.{Bool, true, false, _||_}
 use mathlib.Core.List.{List, [], _∷_, _++_, append-assoc}
 use borrow.Author.Count.{below-more}
-use borrow.Author.Tests.{lt-ltb, le-ltb}
+use borrow.Author.Tests.{lt-ltb, le-ltb, ltb-true, ltb-false}
+use lib.Dec.{ltb}
 use lib.ListN.{length, getD, take, drop, set, take-append-drop, length-drop, length-set}
 use lib.Seq.{drop-drop, drop-append-le, take-append-le, drop-at, take-at, length-take-le, getD-set-same, getD-set-other}
 use Rattle.wire.specs.Bytes.{empty, overwrite}
 use Rattle.wire.specs.First.{first, anyBelow}
-use Rattle.wire.specs.Stop.{earlier}
-use Rattle.wire.proofs.Bools.{clash}
+use Rattle.wire.proofs.Bools.{byBool, clash, or-true, neither-or}
+use Rattle.wire.proofs.FirstLaws.{first-le, first-before, first-at, first-is, first-none, any-some, any-none, none-any}
 use Rattle.wire.proofs.OverwriteLaws.{overwrite-in, overwrite-nil, length-overwrite}
 use Rattle.entry_id.specs.IdRules.{IdRules, Lawful}
 use Rattle.bundle.specs.Table.{Row}
@@ -21,7 +22,7 @@ use Rattle.entry_id.specs.Canonical.{headKey}
 use Rattle.canonical_form.specs.Made.{formOf}
 use Rattle.canonical_form.specs.declared.Form.{Form}
 use Rattle.bundle_reader.specs.Examined.{filled, slots, text, form, formLength}
-use Rattle.bundle_reader.specs.Slots.{Held, Texts, Room, Formed, Placed, setIf}
+use Rattle.bundle_reader.specs.Slots.{firstMore, Held, Texts, Room, Formed, Placed, setIf}
 
 pub length-empty : (l : List ℕ) → length l ≡ 0 → empty l ≡ true
 unfolding empty
@@ -214,12 +215,41 @@ formed-texts R L rows n texts₀ lens₀ keys₀ texts lens keys room f named = 
       };
 }
 
--- an earlier slot was looked for: r is the first, or i
-module _ {A : Type 0} (related : A → A → Bool) (f : ℕ → A) (i r : ℕ) (e : r ≡ first i (λ j. related (f j) (f i))) where
-  pub earlier-found : r < i → earlier related f i ≡ true
-  unfolding earlier anyBelow
-  earlier-found h = rw (← e) (lt-ltb r i h)
+-- ---- the first of one place more
+module _ (r i : ℕ) (b : Bool) where
+  more-kept : (ltb r i || b) ≡ true → firstMore r i b ≡ r
+  unfolding firstMore
+  more-kept e = ap (λ z. elim z [ true ↦ r | false ↦ i + 1 ]) e
 
-  pub earlier-clear : i ≤ r → earlier related f i ≡ false
-  unfolding earlier anyBelow
-  earlier-clear h = rw (← e) (le-ltb r i h)
+  pub more-before : r < i → firstMore r i b ≡ r
+  more-before h = more-kept (ap (λ z. z || b) (lt-ltb r i h))
+
+  pub more-here : b ≡ true → firstMore r i b ≡ r
+  more-here t = more-kept (ap (λ z. ltb r i || z) t ∙ or-true (ltb r i))
+
+  pub more-next : i ≤ r → b ≡ false → firstMore r i b ≡ i + 1
+  unfolding firstMore
+  more-next h f = ap (λ z. elim z [ true ↦ r | false ↦ i + 1 ]) (neither-or (ltb r i) b (le-ltb r i h) f)
+
+pub first-more : (r i : ℕ) (p : ℕ → Bool) (b : Bool) → r ≡ first i p → b ≡ p i → firstMore r i b ≡ first (i + 1) p
+first-more r i p b e q =
+    byBool (ltb r i)
+    (λ t.
+    let h : r < i = ltb-true r i t in
+    more-before r i b h ∙ sym (first-is (i + 1) p r (omega arith) (ap p e ∙ first-at i p (omega (arith, e))) (λ k l. first-before i p k (omega (arith, e)))))
+    (λ f.
+    let z : r ≡ i = omega (arith, ltb-false r i f, first-le i p, e) in
+    let before : (k : ℕ) → k < i → p k ≡ false = λ k l. first-before i p k (omega (arith, e, z)) in
+    byBool b
+    (λ t. more-here r i b t ∙ z ∙ sym (first-is (i + 1) p i (omega arith) (sym q ∙ t) before))
+    (λ u. more-next r i b (omega arith) u ∙ sym (first-none (i + 1) p (below-more _ i before (sym q ∙ u)))))
+
+pub any-more : (j : ℕ) (p : ℕ → Bool) → anyBelow (j + 1) p ≡ (anyBelow j p || p j)
+unfolding anyBelow
+any-more j p =
+    byBool (anyBelow j p)
+    (λ t. let h : first j p < j = ltb-true (first j p) j t in any-some (j + 1) p (first j p) (omega arith) (first-at j p h) ∙ sym (ap (λ z. z || p j) t))
+    (λ f.
+    byBool (p j)
+    (λ t. any-some (j + 1) p j (omega arith) t ∙ sym (ap₂ _||_ f t))
+    (λ u. any-none (j + 1) p (below-more _ j (none-any j p f) u) ∙ sym (ap₂ _||_ f u)))

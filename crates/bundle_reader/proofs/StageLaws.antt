@@ -2,17 +2,17 @@
 use Prim.Native.Nat.{ℕ, zero, suc, _+_, _*_, _≤_, _<_}
 use native.Mathlib.Omega.{arith}
 use mathlib.Core.Path.{_≡_, refl, sym, ap, ap₂, _∙_, subst}
-use mathlib.Core.Bool.{Bool, true, false, _||_}
+use mathlib.Core.Bool.{Bool, true, false}
 use mathlib.Core.List.{List}
 use lib.Dec.{ltb}
 use lib.ListN.{length, replicate}
-use borrow.Author.Tests.{lt-ltb, le-ltb, ltb-true, ltb-false}
+use borrow.Author.Tests.{ltb-true, ltb-false}
 use borrow.Author.Count.{below-more, below-none}
 use Rattle.wire.specs.First.{first}
 use Rattle.wire.specs.Stop.{Stop, go, stop, _⨾_, stopAt, earlier}
-use Rattle.wire.proofs.Bools.{byBool, or-true, neither-or}
-use Rattle.wire.proofs.FirstLaws.{first-le, first-before, first-at, first-is, first-none, any-same}
-use Rattle.wire.proofs.StopLaws.{⨾-go, ⨾-stop, ⨾-next, ⨾-left, ⨾-right, stopAt-same, stopAt-found, stopAt-clear, earlier-none}
+use Rattle.wire.proofs.Bools.{byBool}
+use Rattle.wire.proofs.FirstLaws.{first-is, first-none, any-same}
+use Rattle.wire.proofs.StopLaws.{⨾-go, ⨾-stop, ⨾-next, ⨾-left, ⨾-right, stopAt-same, stopAt-found, stopAt-clear}
 use Rattle.entry_id.specs.IdRules.{IdRules, Lawful}
 use Rattle.bundle.specs.Table.{Row, count, rowStart, row, tableEnd}
 use Rattle.bundle.specs.Check.{badRow, badId, outside, meanSame, mix, unrefused, headStop, tableStop, rowsStop, bundleStop, check}
@@ -26,7 +26,7 @@ use Rattle.bundle_reader.specs.Examined.{filled, slots, text, form, form
 use Rattle.bundle_reader.specs.Slots.{Rows, Tabled, Room, Formed, Placed, Staged, firstMore, Held, Texts, relation, Examination}
 use Rattle.bundle_reader.specs.declared.Examined.{Examined}
 use Rattle.bundle_reader.proofs.RowLaws.{rows-are}
-use Rattle.bundle_reader.proofs.SlotLaws.{held, formed-room, formed-more, formed-bad, bad-here, fine-here, formed-texts}
+use Rattle.bundle_reader.proofs.SlotLaws.{first-more, held, formed-room, formed-more, formed-bad, bad-here, fine-here, formed-texts}
 
 -- ---- a chain stops at its first refusal, and goes past what does not refuse
 
@@ -56,12 +56,6 @@ module _ (n : ℕ) (p q : ℕ → Bool) (twice : ℕ) (a : twice ≡ first n p) 
 
     pub at-0 : n ≤ mixed → stop 0 0 ≡ stopAt 7 n p ⨾ stopAt 8 n q
     at-0 h = past 7 n p twice _ go a once (sym (stopAt-clear 8 n q mixed b h))
-
--- of fewer than two slots none comes after another
-pub alone : {A : Type 0} (n : ℕ) (p q : A → A → Bool) (f : ℕ → A) → n < 2 → stop 0 0 ≡ stopAt 7 n (earlier p f) ⨾ stopAt 8 n (earlier q f)
-alone {A = A} n p q f h =
-    let none : (g : A → A → Bool) → n ≡ first n (earlier g f) = λ g. sym (first-none n (earlier g f) (λ i l. earlier-none g f i (λ j k. absurd (omega arith)))) in
-    at-0 n _ _ n (none p) (omega arith) n (none q) (omega arith)
 
 -- ---- 5 to 8
 
@@ -103,35 +97,6 @@ pub formed-is : (R : IdRules) (rows : ℕ → Row) (m q : ℕ) (texts₀ lens₀
 formed-is R rows m q texts₀ lens₀ keys₀ texts lens keys e f = subst (λ z. Formed R rows z texts₀ lens₀ keys₀ texts lens keys) e f
 
 -- ---- the loop that makes them, at row i of n
-
--- the first row outside, of one row more
-module _ (r i : ℕ) (b : Bool) where
-  more-kept : (ltb r i || b) ≡ true → firstMore r i b ≡ r
-  unfolding firstMore
-  more-kept e = ap (λ z. elim z [ true ↦ r | false ↦ i + 1 ]) e
-
-  pub more-before : r < i → firstMore r i b ≡ r
-  more-before h = more-kept (ap (λ z. z || b) (lt-ltb r i h))
-
-  pub more-here : b ≡ true → firstMore r i b ≡ r
-  more-here t = more-kept (ap (λ z. ltb r i || z) t ∙ or-true (ltb r i))
-
-  pub more-next : i ≤ r → b ≡ false → firstMore r i b ≡ i + 1
-  unfolding firstMore
-  more-next h f = ap (λ z. elim z [ true ↦ r | false ↦ i + 1 ]) (neither-or (ltb r i) b (le-ltb r i h) f)
-
-first-more : (r i : ℕ) (p : ℕ → Bool) (b : Bool) → r ≡ first i p → b ≡ p i → firstMore r i b ≡ first (i + 1) p
-first-more r i p b e q =
-    byBool (ltb r i)
-    (λ t.
-    let h : r < i = ltb-true r i t in
-    more-before r i b h ∙ sym (first-is (i + 1) p r (omega arith) (ap p e ∙ first-at i p (omega (arith, e))) (λ k l. first-before i p k (omega (arith, e)))))
-    (λ f.
-    let z : r ≡ i = omega (arith, ltb-false r i f, first-le i p, e) in
-    let before : (k : ℕ) → k < i → p k ≡ false = λ k l. first-before i p k (omega (arith, e, z)) in
-    byBool b
-    (λ t. more-here r i b t ∙ z ∙ sym (first-is (i + 1) p i (omega arith) (sym q ∙ t) before))
-    (λ u. more-next r i b (omega arith) u ∙ sym (first-none (i + 1) p (below-more _ i before (sym q ∙ u)))))
 
 pub staged-none : (R : IdRules) (rows : ℕ → Row) (end len : ℕ) (texts lens keys : List ℕ) → Staged R rows end len 0 0 texts lens keys texts lens keys
 unfolding first

@@ -15,6 +15,7 @@ use Rattle.bundle.specs.Check.{badRow, badId, outside, unrefused, bundleStop}
 use Rattle.bundle.specs.Accepted.{RowFits}
 use Rattle.bundle.specs.Records.{noRecord, rowsOf}
 use Rattle.bundle.specs.declared.EntryRecord.{EntryRecord}
+use Rattle.canonical_form.specs.declared.Relation.{Relation}
 use Rattle.bundle_reader.specs.Examined.{filled, slots, text, form, formLength, rowsIn}
 
 -- ---- rows
@@ -99,6 +100,10 @@ near keys i = first i (λ j. eqb (getD keys j 0) (getD keys i 0))
 abbrev pub relation : IdRules → Bool → List ℕ → List ℕ → Bool
 relation R true = R .sameMeaning
 relation R false = R .mixed
+
+-- both
+abbrev pub relations : IdRules → List ℕ → List ℕ → Relation
+relations R a b = record { same = relation R true a b; mixed = relation R false a b }
 
 -- ---- what is left of it
 

@@ -1,7 +1,7 @@
 // The check of a bundle, and the pick of the image for a device name.
 ghost use mathlib.Core.Path.{_≡_};
 ghost use mathlib.Core.Bool.{true, false};
-ghost use Prim.Native.Nat.{ℕ, _+_, _*_, _<_, _≤_};
+ghost use Prim.Native.Nat.{ℕ, _+_, _*_, _-_, _<_, _≤_};
 ghost use lib.ListN.{length, getD, take, drop, replicate};
 ghost use Rattle.wire.specs.Bytes.{same, overwrite};
 ghost use Rattle.wire.specs.First.{first};
@@ -16,11 +16,12 @@ ghost use Rattle.bundle.specs.Theorems.{refusal};
 ghost use Rattle.bundle.specs.Records.{noRecord, recordAt, rowOf, rowsOf, badPart};
 ghost use Rattle.canonical_form.specs.Made.{formOf};
 ghost use Rattle.bundle_reader.specs.Examined.{filled, slots, text, form, formLength, heldRow, examined, formsOf, examinedRecords, formsOfRecords};
-ghost use Rattle.bundle_reader.specs.Slots.{Tabled, firstMore, IdsIn, Room, Formed, Placed, Canonical, Texts, near, relation};
+ghost use Rattle.bundle_reader.specs.Slots.{Tabled, firstMore, IdsIn, Room, Formed, Placed, Canonical, Texts, near, relation, relations};
 use bundle::Checked;
 use bundle::EntryRecord;
 use bundle::Picked;
 use canonical_form::Form;
+use canonical_form::Relation;
 
 // The first bad row of a table, or the count; where no row is bad, the table's end.
 struct Table {
@@ -185,18 +186,26 @@ fn first_bad_part(rows: [EntryRecord; 64], n: usize, room: usize) -> usize
     i
 }
 
+// The first of i places with a property, and the next one, where that of the i places is `first` and the next has the property or not.
+fn first_of(first: usize, i: usize, holds: bool) -> usize
+    requires { ⌜ i < 64 ⌝ }
+    ensures { λ r. ⌜ r ≡ firstMore first i holds ⌝ }
+{
+    if first < i {
+        return first;
+    }
+    if holds {
+        return first;
+    }
+    i + 1
+}
+
 // 6 RANGE: the first outside of i rows and the next one, where that of the i rows is `first`.
 fn first_outside(first: usize, i: usize, row: EntryRecord, end: usize, len: usize) -> usize
     requires { ⌜ i < 64 ⌝ }
     ensures { λ r. ⌜ r ≡ firstMore first i (outside end len (row .«image_start») (row .«image_len»)) ⌝ }
 {
-    if first < i {
-        return first;
-    }
-    if outside_row(row, end, len) {
-        return first;
-    }
-    i + 1
+    first_of(first, i, outside_row(row, end, len))
 }
 
 // The canonical form of the ID of `len` bytes at `start`, to slot i; of length 0 where the ID breaks the rules.
@@ -249,20 +258,18 @@ pub fn slot<'a, 'b>(texts: &'a [u8], lens: &'b [usize], k: usize) -> &'a [u8]
     &texts[a..e]
 }
 
-// Of the texts of slots j and i: the same meaning, where `twice`; else mixed feature names. Texts whose numbers differ are in no relation.
-fn related(twice: bool, texts: &[u8], lens: &[usize], keys: &[u64], j: usize, i: usize) -> bool
+// How the texts of slots j and i stand to each other. Texts whose numbers differ are in no relation.
+fn related(texts: &[u8], lens: &[usize], keys: &[u64], j: usize, i: usize) -> Relation
     requires { ⌜ (j < i) × Texts idRules (now texts) (now lens) (now keys) (i + 1) ⌝ }
-    ensures { λ r. ⌜ r ≡ relation idRules twice (text (now (texts .entry)) (now (lens .entry)) j) (text (now (texts .entry)) (now (lens .entry)) i) ⌝ }
+    ensures { λ r. ⌜ r ≡ relations idRules (text (now (texts .entry)) (now (lens .entry)) j) (text (now (texts .entry)) (now (lens .entry)) i) ⌝ }
 {
     if keys[j] != keys[i] {
-        return false;
+        return Relation {
+            same: false,
+            mixed: false,
+        };
     }
-    let a = slot(texts, lens, j);
-    let b = slot(texts, lens, i);
-    if twice {
-        return canonical_form::same_meaning(a, b);
-    }
-    canonical_form::mixed(a, b)
+    canonical_form::relation_of(slot(texts, lens, j), slot(texts, lens, i))
 }
 
 // The first slot with the number of slot i, or i.
@@ -281,63 +288,35 @@ fn near_at(keys: &[u64], i: usize) -> usize
     j
 }
 
-// That, of n slots.
-fn nears(keys: &[u64], n: usize) -> [usize; 64]
-    requires { ⌜ (n ≤ 64) × (n ≤ length (now keys)) ⌝ }
-    ensures { λ r. ⌜ (length r ≡ 64) × ((k : ℕ) → k < n → getD r k 0 ≡ near (now (keys .entry)) k) ⌝ }
+// That, where it is `last` for the slot before.
+fn near_next(keys: &[u64], i: usize, last: usize) -> usize
+    requires { ⌜ (i < length (now keys)) × (0 < i → last ≡ near (now keys) (i - 1)) ⌝ }
+    ensures { λ r. ⌜ r ≡ near (now (keys .entry)) i ⌝ }
 {
-    let mut found = [0usize; 64];
-    let mut k: usize = 0;
-    while k < n {
-        found[k] = near_at(keys, k);
-        k += 1;
+    if 0 < i {
+        if keys[i - 1] == keys[i] {
+            return last;
+        }
     }
-    found
+    near_at(keys, i)
 }
 
-// The first slot before i whose text stands in the relation to that of slot i, or i. None before `from` has the number of slot i.
-fn related_before(
-    twice: bool,
-    texts: &[u8],
-    lens: &[usize],
-    keys: &[u64],
-    from: usize,
-    i: usize,
-) -> usize
+// How the texts of earlier slots stand to that of slot i: whether one has the same meaning; else whether one is mixed with it. None before `from` has the number of slot i.
+fn related_before(texts: &[u8], lens: &[usize], keys: &[u64], from: usize, i: usize) -> Relation
     requires { ⌜ Texts idRules (now texts) (now lens) (now keys) (i + 1) × (from ≡ near (now keys) i) ⌝ }
-    ensures { λ r. ⌜ r ≡ first i (λ j. relation idRules twice (text (now (texts .entry)) (now (lens .entry)) j) (text (now (texts .entry)) (now (lens .entry)) i)) ⌝ }
+    ensures { λ r. ⌜ (r .same ≡ earlier (relation idRules true) (text (now (texts .entry)) (now (lens .entry))) i) × (r .same ≡ false → r .mixed ≡ earlier (relation idRules false) (text (now (texts .entry)) (now (lens .entry))) i) ⌝ }
 {
     let mut j = from;
+    let mut mixed = false;
     while j < i {
-        if related(twice, texts, lens, keys, j, i) {
-            return j;
+        let r = related(texts, lens, keys, j, i);
+        if r.same {
+            return r;
         }
+        mixed = mixed | r.mixed;
         j += 1;
     }
-    j
-}
-
-// 7 TWICE or 8 MIXED: the first of n slots to whose text an earlier one stands in the relation, or n.
-fn first_related(
-    twice: bool,
-    texts: &[u8],
-    lens: &[usize],
-    keys: &[u64],
-    froms: &[usize; 64],
-    n: usize,
-) -> usize
-    requires { ⌜ Texts idRules (now texts) (now lens) (now keys) n × (n ≤ 64) × ((k : ℕ) → k < n → getD (now froms) k 0 ≡ near (now keys) k) ⌝ }
-    ensures { λ r. ⌜ r ≡ first n (earlier (relation idRules twice) (text (now (texts .entry)) (now (lens .entry)))) ⌝ }
-{
-    let mut later: usize = 0;
-    while later < n {
-        let found = related_before(twice, texts, lens, keys, froms[later], later);
-        if found < later {
-            return later;
-        }
-        later += 1;
-    }
-    later
+    Relation { same: false, mixed }
 }
 
 fn refused(number: usize, place: usize) -> Refusal
@@ -351,15 +330,18 @@ fn compare(texts: &[u8], lens: &[usize], keys: &[u64], n: usize) -> Refusal
     requires { ⌜ Texts idRules (now texts) (now lens) (now keys) n × (n ≤ 64) ⌝ }
     ensures { λ r. ⌜ stop (r .number) (r .place) ≡ stopAt 7 n (earlier (relation idRules true) (text (now (texts .entry)) (now (lens .entry)))) ⨾ stopAt 8 n (earlier (relation idRules false) (text (now (texts .entry)) (now (lens .entry)))) ⌝ }
 {
-    if n < 2 {
-        return refused(0, 0);
+    let mut i: usize = 0;
+    let mut from: usize = 0;
+    let mut mix: usize = 0;
+    while i < n {
+        from = near_next(keys, i, from);
+        let r = related_before(texts, lens, keys, from, i);
+        if r.same {
+            return refused(7, i);
+        }
+        mix = first_of(mix, i, r.mixed);
+        i += 1;
     }
-    let froms = nears(keys, n);
-    let twice = first_related(true, texts, lens, keys, &froms, n);
-    if twice < n {
-        return refused(7, twice);
-    }
-    let mix = first_related(false, texts, lens, keys, &froms, n);
     if mix < n {
         return refused(8, mix);
     }

@@ -12,7 +12,8 @@ use Rattle.wire.specs.Lists.{agree, any, every}
 use Rattle.entry_id.specs.Text.{splitOn, onFirst, notColon}
 use Rattle.wire.specs.Bytes.{same, common}
 use Rattle.entry_id.proofs.TextLaws.{split-last, split-skip, split-some}
-use Rattle.wire.proofs.Bools.{cases, byBool, or-true, and-false}
+use Rattle.wire.proofs.Bools.{cases, byBool, clash, and-both, or-true, and-false}
+use Rattle.wire.proofs.ByteLaws.{same-length, same-common}
 use Rattle.entry_id.specs.Meaning.{piecesOf}
 use Rattle.entry_id.proofs.ReadBack.{no-colon}
 use Rattle.canonical_form.specs.Scan.{part, Run, piecesAt, endsAt, MeetIs}
@@ -205,33 +206,62 @@ common-apart (x ∷ s) (y ∷ t) h k = byBool (eqb x y)
     (λ e. let z : common (x ∷ s) (y ∷ t) ≡ suc (common s t) = rw e in rw z (common-apart s t (omega arith) (omega arith)))
     (λ e. let z : common (x ∷ s) (y ∷ t) ≡ 0 = rw e in rw z e)
 
-module _ (a b : List ℕ) (i n : ℕ) (inside : i ≤ length a) (same-length : length a ≡ length b) (so-far : agree sameButSign a b ≡ agree sameButSign (drop i a) (drop i b)) (c : n ≡ common (drop i a) (drop i b)) where
-  after-common : agree sameButSign a b ≡ agree sameButSign (drop (i + n) a) (drop (i + n) b)
-  after-common = so-far ∙ alike-common (drop i a) (drop i b) ∙ ap₂ (agree sameButSign) (ap (λ k. drop k (drop i a)) (sym c) ∙ drop-drop n i a) (ap (λ k. drop k (drop i b)) (sym c) ∙ drop-drop n i b)
+-- at the end of a common start of n bytes
+module _ (a b : List ℕ) (n : ℕ) (c : n ≡ common a b) where
+  pub alike-start : agree sameButSign a b ≡ agree sameButSign (drop n a) (drop n b)
+  alike-start = alike-common a b ∙ ap (λ k. agree sameButSign (drop k a) (drop k b)) (sym c)
 
-  pub alike-whole : length a ≤ i + n → true ≡ agree sameButSign a b
-  unfolding agree
-  alike-whole h = sym (after-common ∙ ap₂ (agree sameButSign) (drop-of-length-le a {i = i + n} h) (drop-of-length-le b {i = i + n} (omega (arith, same-length))))
+  pub start-apart : length a ≡ length b → n < length a → eqb (getD a n 0) (getD b n 0) ≡ false
+  start-apart e h = ap (λ k. eqb (getD a k 0) (getD b k 0)) c ∙ common-apart a b (omega arith) (omega arith)
 
-  module _ (h : i + n < length a) where
-    k : i + n < length b
-    k = omega (arith, same-length)
+-- up to `at`, where the bytes differ
+module _ (a b : List ℕ) (at : ℕ) (equal : length a ≡ length b) (so-far : agree sameButSign a b ≡ agree sameButSign (drop at a) (drop at b)) (h : at < length a) where
+  k : at < length b
+  k = omega (arith, equal)
 
-    pub alike-next : (signByte (getD a (i + n) 0) && signByte (getD b (i + n) 0)) ≡ true → agree sameButSign a b ≡ agree sameButSign (drop (i + n + 1) a) (drop (i + n + 1) b)
+  pub alike-other : eqb (getD a at 0) (getD b at 0) ≡ false → (signByte (getD a at 0) && signByte (getD b at 0)) ≡ false → false ≡ agree sameButSign a b
+  unfolding agree sameButSign
+  alike-other apart e = sym (so-far ∙ ap₂ (agree sameButSign) (drop-cons a at 0 h) (drop-cons b at 0 k) ∙ rw (e, apart))
+
+  -- both are signs: on to the end of what is common behind them
+  module _ (e : (signByte (getD a at 0) && signByte (getD b at 0)) ≡ true) (n : ℕ) (c : n ≡ common (drop (at + 1) a) (drop (at + 1) b)) where
+    past-sign : agree sameButSign a b ≡ agree sameButSign (drop (at + 1) a) (drop (at + 1) b)
     unfolding agree sameButSign
-    alike-next e =
-        after-common ∙ ap₂ (agree sameButSign) (drop-cons a (i + n) 0 h) (drop-cons b (i + n) 0 k)
-        ∙ rw (e, or-true (eqb (getD a (i + n) 0) (getD b (i + n) 0)), add-one (i + n))
+    past-sign = so-far ∙ ap₂ (agree sameButSign) (drop-cons a at 0 h) (drop-cons b at 0 k) ∙ rw (e, or-true (eqb (getD a at 0) (getD b at 0)), add-one at)
 
-    apart : eqb (getD a (i + n) 0) (getD b (i + n) 0) ≡ false
-    apart =
-        ap₂ eqb (ap (λ m. getD a (i + m) 0) c ∙ sym (getD-drop i a (common (drop i a) (drop i b)) 0)) (ap (λ m. getD b (i + m) 0) c ∙ sym (getD-drop i b (common (drop i a) (drop i b)) 0))
-        ∙ common-apart (drop i a) (drop i b) (omega (arith, length-drop i a, c)) (omega (arith, length-drop i b, c, same-length))
+    pub alike-next : agree sameButSign a b ≡ agree sameButSign (drop (at + 1 + n) a) (drop (at + 1 + n) b)
+    alike-next = past-sign ∙ alike-start _ _ n c ∙ ap₂ (agree sameButSign) (drop-drop n (at + 1) a) (drop-drop n (at + 1) b)
 
-    pub alike-other : (signByte (getD a (i + n) 0) && signByte (getD b (i + n) 0)) ≡ false → false ≡ agree sameButSign a b
-    unfolding agree sameButSign
-    alike-other e = sym (after-common ∙ ap₂ (agree sameButSign) (drop-cons a (i + n) 0 h) (drop-cons b (i + n) 0 k) ∙ rw (e, apart))
+    pub next-apart : at + 1 + n < length a → eqb (getD a (at + 1 + n) 0) (getD b (at + 1 + n) 0) ≡ false
+    next-apart l =
+        ap₂ eqb (sym (getD-drop (at + 1) a n 0)) (sym (getD-drop (at + 1) b n 0))
+        ∙ start-apart (drop (at + 1) a) (drop (at + 1) b) n c (length-drop (at + 1) a ∙ ap (λ z. z - (at + 1)) equal ∙ sym (length-drop (at + 1) b)) (omega (arith, length-drop (at + 1) a))
 
 pub alike-end : (a b : List ℕ) (i : ℕ) → length a ≤ i → length b ≤ i → agree sameButSign a b ≡ agree sameButSign (drop i a) (drop i b) → true ≡ agree sameButSign a b
 unfolding agree
 alike-end a b i h k e = sym (e ∙ ap₂ (agree sameButSign) (drop-of-length-le a h) (drop-of-length-le b k))
+
+-- ---- two texts whose common start has n bytes
+
+module _ (a b : List ℕ) (n : ℕ) (c : n ≡ common a b) where
+  -- it is both of them, or they differ
+  pub whole-same : (eqb n (length a) && eqb n (length b)) ≡ same a b
+  whole-same =
+      byBool (eqb (length a) (length b))
+      (λ t.
+      let l = eqb-true (length a) (length b) t in
+      let q : eqb n (length a) ≡ same a b = ap (λ z. eqb z (length a)) c ∙ same-common a b l in
+      ap (λ z. eqb n (length a) && eqb n z) (sym l) ∙ twice (eqb n (length a)) ∙ q)
+      (λ f.
+      sym (byBool (eqb n (length a) && eqb n (length b))
+      (λ t.
+      let (x, y) = and-both _ _ t in
+      clash (eqb (length a) (length b)) (eq-eqb (length a) (length b) (sym (eqb-true n (length a) x) ∙ eqb-true n (length b) y)) f)
+      (λ u. same-length a b (eqb-false _ _ f) ∙ sym u)))
+    where
+      twice : (x : Bool) → (x && x) ≡ x
+      twice true = refl
+      twice false = refl
+
+  pub whole-alike : n ≡ length a → n ≡ length b → true ≡ agree sameButSign a b
+  whole-alike x y = alike-end a b n (omega arith) (omega arith) (alike-start a b n c)

@@ -3,7 +3,7 @@ ghost use mathlib.Core.Path.{_≡_};
 ghost use Prim.Native.Nat.{_+_, _-_, _<_};
 ghost use mathlib.Core.Bool.{true, false};
 ghost use Rattle.wire.specs.Lists.{any, agree};
-ghost use Rattle.wire.specs.Bytes.{same};
+ghost use Rattle.wire.specs.Bytes.{same, common};
 ghost use Rattle.entry_id.specs.Canonical.{within, signByte, sameButSign};
 ghost use Rattle.canonical_form.specs.Scan.{MeetIs, piecesAt};
 use crate::scan::colon;
@@ -45,23 +45,21 @@ fn sign_byte(b: u8) -> bool
     (b == b'+') | (b == b'-')
 }
 
-// Whether a and b are the same but for signs. It stops at the first other difference.
-pub(crate) fn alike(a: &[u8], b: &[u8]) -> bool
+// Whether a and b, whose common start has n bytes, are the same but for signs. It stops at the first other difference.
+pub(crate) fn alike(a: &[u8], b: &[u8], n: usize) -> bool
+    requires { ⌜ n ≡ common (now a) (now b) ⌝ }
     ensures { λ r. ⌜ r ≡ agree sameButSign (now (a .entry)) (now (b .entry)) ⌝ }
 {
     if a.len() != b.len() {
         return false;
     }
-    let mut i = 0;
-    while i < a.len() {
-        let at = i + wire::common_prefix(&a[i..], &b[i..]);
-        if at >= a.len() {
-            return true;
-        }
+    let mut at = n;
+    while at < a.len() {
         if !(sign_byte(a[at]) & sign_byte(b[at])) {
             return false;
         }
-        i = at + 1;
+        let i = at + 1;
+        at = i + wire::common_prefix(&a[i..], &b[i..]);
     }
     true
 }

@@ -76,19 +76,43 @@ pub fn compatible(entry: &[u8], device: &[u8]) -> bool
     compare::all_in(entry, m - 1, device, m - 1)
 }
 
+// How two entries in canonical form stand to each other: the same meaning; equal heads and other feature names.
+pub struct Relation {
+    pub same: bool,
+    pub mixed: bool,
+}
+
+// Both at once, from one common start.
+pub fn relation_of(a: &[u8], b: &[u8]) -> Relation
+    ensures { λ r. ⌜ r ≡ record { same = sameText (now (a .entry)) (now (b .entry)); mixed = mixedText (now (a .entry)) (now (b .entry)) } ⌝ }
+{
+    let n = wire::common_prefix(a, b);
+    if (n == a.len()) & (n == b.len()) {
+        return Relation {
+            same: true,
+            mixed: false,
+        };
+    }
+    if compare::alike(a, b, n) {
+        return Relation {
+            same: false,
+            mixed: false,
+        };
+    }
+    let mixed = compare::meet(a, b) != 0;
+    Relation { same: false, mixed }
+}
+
 // Whether two entries in canonical form have the same meaning.
 pub fn same_meaning(a: &[u8], b: &[u8]) -> bool
     ensures { λ r. ⌜ r ≡ sameText (now (a .entry)) (now (b .entry)) ⌝ }
 {
-    wire::same_bytes(a, b)
+    relation_of(a, b).same
 }
 
 // Whether two entries in canonical form have equal heads and other feature names.
 pub fn mixed(a: &[u8], b: &[u8]) -> bool
     ensures { λ r. ⌜ r ≡ mixedText (now (a .entry)) (now (b .entry)) ⌝ }
 {
-    if compare::alike(a, b) {
-        return false;
-    }
-    compare::meet(a, b) != 0
+    relation_of(a, b).mixed
 }

@@ -1,14 +1,14 @@
-use Rattle.entry_id.specs.Canonical.{sameText}
 use borrow.Author.Needs.{needs}
+use mathlib.Core.Path.{ap}
+use Rattle.canonical_form.specs.declared.Relation.{Relation}
 use Rattle.canonical_form.proofs.same_meaning.Statement.{statement}
 use Rattle.canonical_form.proofs.same_meaning.Tie as tie
 
-same-bytes-requires : tie.Need-same-bytes-requires
-same-bytes-requires c κs = search needs
+relation-of-requires : tie.Need-relation-of-requires
+relation-of-requires c κs = search needs
 
 returns : tie.Need-returns
-unfolding sameText
-returns c = c .same-bytes .ensures
+returns c = ap (λ (z : Relation). z .same) (c .relation-of .ensures)
 
 pub same-meaning-spec : {M : Type 1} → statement M
-same-meaning-spec = tie.close (tie.spec same-bytes-requires returns)
+same-meaning-spec = tie.close (tie.spec relation-of-requires returns)
