@@ -11,9 +11,9 @@ use borrow.Author.Tests.{eqb-true, eqb-false, eq-eqb, ne-eqb, lt-ltb, ltb-true, 
 use Rattle.wire.specs.Lists.{agree, any, every}
 use Rattle.entry_id.specs.Text.{splitOn, onFirst, notColon}
 use Rattle.wire.specs.Bytes.{same, common}
-use Rattle.entry_id.proofs.TextLaws.{split-last, split-skip, split-some}
-use Rattle.wire.proofs.Bools.{cases, byBool, clash, and-both, or-true, and-false}
-use Rattle.wire.proofs.ByteLaws.{same-length, same-common}
+use Rattle.entry_id.proofs.TextLaws.{split-last, split-skip, split-some, every-imp}
+use Rattle.wire.proofs.Bools.{cases, byBool, clash, and-both, or-true, and-false, of-true, is-true, and-t, or-l, or-r}
+use Rattle.wire.proofs.ByteLaws.{same-refl, same-eq, same-length, same-common}
 use Rattle.entry_id.specs.Meaning.{piecesOf}
 use Rattle.entry_id.proofs.ReadBack.{no-colon}
 use Rattle.canonical_form.specs.Scan.{part, Run, piecesAt, endsAt, MeetIs}
@@ -162,6 +162,21 @@ module _ (a b : List ℕ) (r : ℕ) (m : MeetIs a b r) where
     | inl z ↦ let k = ltb-true 0 r z in rw (e, m .found k .0) (f k)
     | inr z ↦ let k : r ≡ 0 = omega (arith, ltb-false 0 r z) in rw (e, m .differ k) (g k)
   ]
+
+within-self : (l : List (List ℕ)) → T (every (λ p. any (same p) l) l)
+unfolding every any
+within-self [] = tt
+within-self (x ∷ l) =
+    and-t (any (same x) (x ∷ l)) (every (λ p. any (same p) (x ∷ l)) l)
+    (or-l (same x x) (any (same x) l) (same-refl x))
+    (every-imp (λ p. any (same p) l) (λ p. any (same p) (x ∷ l)) (λ p t. or-r (same p x) (any (same p) l) t) l (within-self l))
+
+-- a text is compatible with itself
+pub compatible-self : (a b : List ℕ) → same a b ≡ true → true ≡ compatibleText a b
+unfolding compatibleText within
+compatible-self a b e =
+    sym (is-true _ (and-t (same (headOf a) (headOf a)) (within (piecesOf a) (piecesOf a)) (same-refl (headOf a)) (within-self (piecesOf a))))
+    ∙ ap (compatibleText a) (same-eq a b (of-true (same a b) e))
 
 pub mixed-alike : (a b : List ℕ) → agree sameButSign a b ≡ true → false ≡ mixedText a b
 unfolding mixedText

@@ -65,10 +65,13 @@ pub fn canonical(id: &[u8], out: &mut [u8]) -> Form
     Form { length, key }
 }
 
-// Whether an entry is compatible with a device, both in canonical form.
+// Whether an entry is compatible with a device, both in canonical form. The same text is the most common answer, and the quickest.
 pub fn compatible(entry: &[u8], device: &[u8]) -> bool
     ensures { λ r. ⌜ r ≡ compatibleText (now (entry .entry)) (now (device .entry)) ⌝ }
 {
+    if wire::same_bytes(entry, device) {
+        return true;
+    }
     let m = compare::meet(entry, device);
     if m == 0 {
         return false;

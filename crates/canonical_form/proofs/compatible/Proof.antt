@@ -1,18 +1,21 @@
--- `canonical_form::compatible` meets its contract. Assumes nothing.
-use mathlib.Core.Path.{_∙_}
-use Rattle.canonical_form.proofs.TestLaws.{compatible-yes, compatible-no}
-use native.Mathlib.Omega.{arith}
 use borrow.Author.Needs.{needs}
+use native.Mathlib.Omega.{arith}
+use mathlib.Core.Path.{sym, _∙_}
+use Rattle.canonical_form.proofs.TestLaws.{compatible-self, compatible-no, compatible-yes}
 use Rattle.canonical_form.proofs.compatible.Statement.{statement}
 use Rattle.canonical_form.proofs.compatible.Tie as tie
+
+same-bytes-requires : tie.Need-same-bytes-requires
+same-bytes-requires c κs = search needs
+
+returns : tie.Need-returns
+returns c = compatible-self _ _ (sym (c .before .same-bytes .ensures) ∙ c .if1 .taken)
 
 meet-requires : tie.Need-meet-requires
 meet-requires c κs = search needs
 
-returns : tie.Need-returns
-returns c =
-    let a = c .before .before .before .before .args in
-    compatible-no (a .entry .now) (a .device .now) (c .before .meet .result) (c .before .meet .ensures) (c .if1 .taken)
+returns-2 : tie.Need-returns-2
+returns-2 c = compatible-no _ _ (c .before .meet .result) (c .before .meet .ensures) (c .if2 .taken)
 
 sub-all-in : tie.Need-sub-all-in
 sub-all-in c = search needs
@@ -23,12 +26,19 @@ sub-all-in-2 c = search needs
 all-in-requires : tie.Need-all-in-requires
 all-in-requires c κs = search needs
 
-returns-2 : tie.Need-returns-2
-returns-2 c =
-    let a = c .before .before .before .before .before .args in
-    let m = c .before .before .meet in
-    c .all-in .ensures ∙ compatible-yes (a .entry .now) (a .device .now) (m .result) (m .ensures) (omega (arith, c .before .if1 .left))
+returns-3 : tie.Need-returns-3
+returns-3 c = let m = c .before .before .meet in
+    c .all-in .ensures ∙ compatible-yes _ _ (m .result) (m .ensures) (omega (arith, c .before .if2 .left))
 
 pub compatible-spec : {M : Type 1} → statement M
 compatible-spec =
-    tie.close (tie.spec meet-requires returns sub-all-in sub-all-in-2 all-in-requires returns-2)
+    tie.close
+    (tie.spec
+    same-bytes-requires
+    returns
+    meet-requires
+    returns-2
+    sub-all-in
+    sub-all-in-2
+    all-in-requires
+    returns-3)
