@@ -5,7 +5,7 @@ use mathlib.Core.Path.{_≡_, refl, sym, ap, ap₂, _∙_, subst}
 use mathlib.Core.Bool.{Bool, true, false}
 use mathlib.Core.List.{List}
 use lib.Dec.{ltb}
-use lib.ListN.{length, replicate}
+use lib.ListN.{length}
 use borrow.Author.Tests.{ltb-true, ltb-false}
 use borrow.Author.Count.{below-more, below-none}
 use Rattle.wire.specs.First.{first}
@@ -16,8 +16,8 @@ use Rattle.wire.proofs.StopLaws.{⨾-go, ⨾-stop, ⨾-next, ⨾-left, ⨾-righ
 use Rattle.entry_id.specs.IdRules.{IdRules, Lawful}
 use Rattle.bundle.specs.Table.{Row, count, rowStart, row, tableEnd}
 use Rattle.bundle.specs.Check.{badRow, badId, outside, meanSame, mix, unrefused, headStop, tableStop, rowsStop, bundleStop, check}
-use Rattle.bundle.specs.Accepted.{Accepted}
-use Rattle.bundle.specs.Records.{noRecord, rowOf}
+use Rattle.bundle.specs.Accepted.{RowFits, Accepted}
+use Rattle.bundle.specs.Records.{rowOf}
 use Rattle.bundle.specs.declared.EntryRecord.{EntryRecord}
 use Rattle.bundle.specs.declared.Checked.{Checked}
 use Rattle.bundle.proofs.CheckLaws.{unrefused-go, unrefused-stop}
@@ -153,14 +153,13 @@ module _ (R : IdRules) (L : Lawful R) (rows : ℕ → Row) (end len n i out : �
 -- ---- 1 to 8
 
 module _ (R : IdRules) (s : List ℕ) where
-  -- a refusal is what examining gives
-  pub refused : (number place : ℕ) → 0 < number → stop number place ≡ bundleStop R s
-      → _≡_ {A = Examined} (record { number = number; place = place; count = 0; rows = replicate 64 noRecord }) (examined R s)
-  unfolding examined rowsIn filled
+  -- a refusal is what the check gives
+  pub refused : (number place : ℕ) → 0 < number → stop number place ≡ bundleStop R s → _≡_ {A = Checked} (record { number = number; place = place; count = 0 }) (check R s)
+  unfolding check
   refused zero place h e = absurd (omega arith)
   refused (suc k) place h e =
       let c = sym (unrefused-stop (bundleStop R s) (count s) k (ap (λ t. t .number) (sym e))) in
-      λ i. record { number = e i .number; place = e i .place; count = c i; rows = rowsIn s (c i) }
+      λ i. record { number = e i .number; place = e i .place; count = c i }
 
   module _ (r : ℕ) (e : stop r 0 ≡ headStop s) where
     pub head-stops : 0 < r → stop r 0 ≡ bundleStop R s
@@ -205,16 +204,37 @@ module _ (R : IdRules) (s : List ℕ) where
             let g : headStop s ⨾ tableStop s ≡ go = rw head-goes (⨾-go (tableStop s) ∙ stopAt-clear 4 (count s) _ bad bad-is (omega arith)) in
             ap (λ m. first m (λ i. badId R (row s i))) q ∙ sym (unrefused-go (headStop s ⨾ tableStop s) _ (ap (λ (u : Stop). u .number) g))
 
-        pub all : (rows : List EntryRecord) → rows ≡ rowsIn s n → (number place : ℕ) → stop number place ≡ bundleStop R s → number ≡ 0 → _≡_ {A = Examined} (record { number = number; place = place; count = n; rows = rows }) (examined R s)
-        unfolding examined
-        all rows w number place u y =
+        pub all : (number place : ℕ) → stop number place ≡ bundleStop R s → number ≡ 0 → _≡_ {A = Checked} (record { number = number; place = place; count = n }) (check R s)
+        unfolding check
+        all number place u y =
             let c : n ≡ unrefused (bundleStop R s) (count s) = q ∙ sym (unrefused-go (bundleStop R s) (count s) (ap (λ t. t .number) (sym u) ∙ y)) in
-            λ i. record { number = u i .number; place = u i .place; count = c i; rows = (w ∙ ap (rowsIn s) c) i }
+            λ i. record { number = u i .number; place = u i .place; count = c i }
 
--- the answer of the check
-pub checked : (R : IdRules) (s : List ℕ) (e : Examined) → e ≡ examined R s → _≡_ {A = Checked} (record { number = e .number; place = e .place; count = e .count }) (check R s)
-unfolding check examined
-checked R s e q = ap (λ (z : Examined). record { number = z .number; place = z .place; count = z .count }) q
+-- what was checked, with its rows
+module _ (R : IdRules) (s : List ℕ) (c : Checked) (q : c ≡ check R s) where
+  abbrev with-rows : Examined
+  with-rows = record { number = c .number; place = c .place; count = c .count; rows = rowsIn s (c .count) }
+
+  pub examined-is : with-rows ≡ examined R s
+  unfolding check examined
+  examined-is = ap (λ (z : Checked). record { number = z .number; place = z .place; count = z .count; rows = rowsIn s (z .count) }) q
+
+  -- they are not bad; a refused bundle has none
+  pub counted-rows : (c .count ≤ 64) × ((k : ℕ) → k < c .count → RowFits s (rowStart s k))
+  unfolding check
+  counted-rows = by (bundleStop R s .number) refl
+    where
+      is : c .count ≡ unrefused (bundleStop R s) (count s)
+      is = ap (λ (z : Checked). z .count) q
+
+      by : (k : ℕ) → bundleStop R s .number ≡ k → (c .count ≤ 64) × ((k : ℕ) → k < c .count → RowFits s (rowStart s k))
+      by zero z =
+          let a = accepted R s z in
+          let e : c .count ≡ count s = is ∙ unrefused-go (bundleStop R s) (count s) z in
+          (omega (arith, e, a .frame .few), λ k h. a .frame .rows k (omega (arith, e)))
+      by (suc k) z =
+          let e : c .count ≡ 0 = is ∙ unrefused-stop (bundleStop R s) (count s) k z in
+          (omega (arith, e), λ k h. absurd (omega (arith, e)))
 
 -- ---- what examining leaves
 
@@ -272,11 +292,11 @@ module _ (R : IdRules) (L : Lawful R) (s texts₀ lens₀ texts lens : List ℕ)
       held = forms-held;
     }
 
-pub examination-of : (R : IdRules) → Lawful R → (s texts₀ lens₀ keys₀ texts lens keys : List ℕ) (e : Examined)
-    → (e ≡ examined R s) × Formed R (row s) (formsOf R s) texts₀ lens₀ keys₀ texts lens keys → (count s ≤ 64 → Room (count s) texts₀ lens₀ keys₀)
-    → Examination R s texts lens (e .number) (e .place) (e .count) (e .rows)
-examination-of R L s texts₀ lens₀ keys₀ texts lens keys e f room =
-    examination R L s texts₀ lens₀ texts lens e (f .0) (f .1 .texts-are) (f .1 .lens-are) (λ h. (room h .texts-room, room h .lens-room))
+pub examination-of : (R : IdRules) → Lawful R → (s texts₀ lens₀ keys₀ texts lens keys : List ℕ) (c : Checked)
+    → (c ≡ check R s) × Formed R (row s) (formsOf R s) texts₀ lens₀ keys₀ texts lens keys → (count s ≤ 64 → Room (count s) texts₀ lens₀ keys₀)
+    → Examination R s texts lens (c .number) (c .place) (c .count) (rowsIn s (c .count))
+examination-of R L s texts₀ lens₀ keys₀ texts lens keys c f room =
+    examination R L s texts₀ lens₀ texts lens (with-rows R s c (f .0)) (examined-is R s c (f .0)) (f .1 .texts-are) (f .1 .lens-are) (λ h. (room h .texts-room, room h .lens-room))
 
 -- what `examine` promises, in these words
 pub examine-says : (R : IdRules) → Lawful R → (s texts₀ lens₀ texts lens : List ℕ) (e : Examined)

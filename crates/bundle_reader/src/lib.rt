@@ -8,14 +8,14 @@ ghost use Rattle.wire.specs.First.{first};
 ghost use Rattle.wire.specs.Stop.{stop, _⨾_, stopAt, earlier};
 ghost use Rattle.entry_id.specs.Canonical.{headKey};
 ghost use Rattle.entry_id.specs.Rules.{idRules};
-ghost use Rattle.bundle.specs.Table.{magic, count, row};
+ghost use Rattle.bundle.specs.Table.{magic, count, rowStart, row};
 ghost use Rattle.bundle.specs.Check.{badRow, badId, outside, headStop, rowsStop, check};
 ghost use Rattle.bundle.specs.Pick.{pick};
 ghost use Rattle.bundle.specs.Accepted.{RowFits};
 ghost use Rattle.bundle.specs.Theorems.{refusal};
 ghost use Rattle.bundle.specs.Records.{noRecord, recordAt, rowOf, rowsOf, badPart};
 ghost use Rattle.canonical_form.specs.Made.{formOf};
-ghost use Rattle.bundle_reader.specs.Examined.{filled, slots, text, form, formLength, heldRow, examined, formsOf, examinedRecords, formsOfRecords};
+ghost use Rattle.bundle_reader.specs.Examined.{filled, slots, text, form, formLength, heldRow, rowsIn, examined, formsOf, examinedRecords, formsOfRecords};
 ghost use Rattle.bundle_reader.specs.Slots.{Tabled, firstMore, IdsIn, Room, Formed, Placed, Canonical, Texts, near, relation, relations};
 use bundle::Checked;
 use bundle::EntryRecord;
@@ -122,7 +122,7 @@ pub fn no_records() -> [EntryRecord; 64]
     [none; 64]
 }
 
-// The table of n rows: its first bad row, or its end. Only lengths are read: where a row is stored, none is bad.
+// The table of n rows: its first bad row, or its end. Only lengths are read.
 fn table_end(s: &[u8], n: usize) -> Table
     requires { ⌜ 32 ≤ length (now s) ⌝ }
     ensures { λ r. ⌜ Tabled (now (s .entry)) n (r .bad) (r .end) ⌝ }
@@ -425,33 +425,33 @@ pub fn examine_records(
     examine_records_in(ids, rows, n, len, texts, lens, &mut keys)
 }
 
-fn not_examined(number: usize, place: usize) -> Examined
-    ensures { λ r. ⌜ r ≡ record { number = number; place = place; count = 0; rows = replicate 64 noRecord } ⌝ }
+// A check's refusal.
+fn not_checked(number: usize, place: usize) -> Checked
+    ensures { λ r. ⌜ r ≡ record { number = number; place = place; count = 0 } ⌝ }
 {
-    Examined {
+    Checked {
         number,
         place,
         count: 0,
-        rows: no_records(),
     }
 }
 
-fn examine_in(s: &[u8], texts: &mut [u8], lens: &mut [usize], keys: &mut [u64]) -> Examined
+// 1 to 8 of a bundle, with the canonical IDs in their slots. Each row is read once, when its turn comes.
+fn check_in(s: &[u8], texts: &mut [u8], lens: &mut [usize], keys: &mut [u64]) -> Checked
     requires { ⌜ (count (now s) ≤ 64 → Room (count (now s)) (now texts) (now lens) (now keys)) ⌝ }
-    ensures { λ r. ⌜ (r ≡ examined idRules (now (s .entry))) × Formed idRules (row (now (s .entry))) (formsOf idRules (now (s .entry))) (now (texts .entry)) (now (lens .entry)) (now (keys .entry)) (now (texts .exit)) (now (lens .exit)) (now (keys .exit)) ⌝ }
+    ensures { λ r. ⌜ (r ≡ check idRules (now (s .entry))) × Formed idRules (row (now (s .entry))) (formsOf idRules (now (s .entry))) (now (texts .entry)) (now (lens .entry)) (now (keys .entry)) (now (texts .exit)) (now (lens .exit)) (now (keys .exit)) ⌝ }
 {
     let first = head(s);
     if 0 < first {
-        return not_examined(first, 0);
+        return not_checked(first, 0);
     }
     let n = wire::word8_at(s, 24) as usize;
     let t = table_end(s, n);
     let bad = t.bad;
     if bad < n {
-        return not_examined(4, bad);
+        return not_checked(4, bad);
     }
     let end = t.end;
-    let mut rows = no_records();
     let mut i: usize = 0;
     let mut at: usize = 32;
     let mut out: usize = 0;
@@ -459,22 +459,52 @@ fn examine_in(s: &[u8], texts: &mut [u8], lens: &mut [usize], keys: &mut [u64]) 
         let row = row_at(s, at);
         at = row.id_start + row.id_len;
         if !place_form(s, row, texts, lens, keys, i) {
-            return not_examined(5, i);
+            return not_checked(5, i);
         }
         out = first_outside(out, i, row, end, s.len());
-        rows[i] = row;
         i += 1;
     }
     let r = relate(out, texts, lens, keys, n);
     let number = r.number;
     if 0 < number {
-        return not_examined(number, r.place);
+        return not_checked(number, r.place);
     }
-    Examined {
+    Checked {
         number,
         place: r.place,
         count: n,
-        rows,
+    }
+}
+
+// The table of n rows, none of which is bad.
+fn read_table(s: &[u8], n: usize) -> [EntryRecord; 64]
+    requires { ⌜ (n ≤ 64) × ((k : ℕ) → k < n → RowFits (now s) (rowStart (now s) k)) ⌝ }
+    ensures { λ r. ⌜ r ≡ rowsIn (now (s .entry)) n ⌝ }
+{
+    let mut rows = no_records();
+    let mut i: usize = 0;
+    let mut at: usize = 32;
+    while i < n {
+        let row = row_at(s, at);
+        at = row.id_start + row.id_len;
+        rows[i] = row;
+        i += 1;
+    }
+    rows
+}
+
+// A refused bundle has no rows.
+fn examine_in(s: &[u8], texts: &mut [u8], lens: &mut [usize], keys: &mut [u64]) -> Examined
+    requires { ⌜ (count (now s) ≤ 64 → Room (count (now s)) (now texts) (now lens) (now keys)) ⌝ }
+    ensures { λ r. ⌜ (r ≡ examined idRules (now (s .entry))) × Formed idRules (row (now (s .entry))) (formsOf idRules (now (s .entry))) (now (texts .entry)) (now (lens .entry)) (now (keys .entry)) (now (texts .exit)) (now (lens .exit)) (now (keys .exit)) ⌝ }
+{
+    let c = check_in(s, texts, lens, keys);
+    let count = c.count;
+    Examined {
+        number: c.number,
+        place: c.place,
+        count,
+        rows: read_table(s, count),
     }
 }
 
@@ -487,18 +517,6 @@ pub fn examine(bundle: &[u8], texts: &mut [u8; 16384], lens: &mut [usize; 64]) -
 {
     let mut keys = [0u64; 64];
     examine_in(bundle, texts, lens, &mut keys)
-}
-
-fn check_in(s: &[u8], texts: &mut [u8], lens: &mut [usize], keys: &mut [u64]) -> Checked
-    requires { ⌜ (count (now s) ≤ 64 → Room (count (now s)) (now texts) (now lens) (now keys)) ⌝ }
-    ensures { λ r. ⌜ r ≡ check idRules (now (s .entry)) ⌝ }
-{
-    let e = examine_in(s, texts, lens, keys);
-    Checked {
-        number: e.number,
-        place: e.place,
-        count: e.count,
-    }
 }
 
 // The check of a bundle. Few entries need little scratch.
@@ -581,22 +599,23 @@ fn pick_in(
     requires { ⌜ (count (now s) ≤ 64 → Room (count (now s)) (now texts) (now lens) (now keys)) × (length (now name) ≡ 256) ⌝ }
     ensures { λ r. ⌜ r ≡ pick idRules (now (s .entry)) (now (device .entry)) ⌝ }
 {
-    let e = examine_in(s, texts, lens, keys);
-    let number = e.number;
+    let c = check_in(s, texts, lens, keys);
+    let number = c.number;
     if 0 < number {
-        return no_image(number, e.place);
+        return no_image(number, c.place);
     }
     let made = canonical_form::canonical(device, name);
     let len = made.length;
     if len == 0 {
         return no_image(9, 0);
     }
-    let n = e.count;
+    let n = c.count;
     let i = first_compatible(texts, lens, keys, n, &name[..len], made.key);
     if n <= i {
         return no_image(10, 0);
     }
-    let row = e.rows[i];
+    let rows = read_table(s, n);
+    let row = rows[i];
     Picked {
         number: 0,
         place: 0,
