@@ -1,24 +1,24 @@
 -- The tests on two texts, piece by piece. Assumes nothing.
-use Prim.Native.Nat.{ℕ, suc, _+_, _-_, _≤_, _<_}
+use Prim.Native.Nat.{ℕ, zero, suc, _+_, _-_, _≤_, _<_}
 use mathlib.Core.Path.{_≡_, refl, sym, ap, ap₂, _∙_, subst}
 use mathlib.Core.Logic.{inl, inr}
 use mathlib.Core.Bool.{Bool, true, false, not, _&&_}
 use mathlib.Core.List.{append-nil, List, [], _∷_, _++_}
 use lib.ListN.{length, getD, take, drop, drop-of-length-le, length-drop}
-use lib.Seq.{take-all, drop-cons, drop-drop, getD-drop}
+use lib.Seq.{take-all, drop-cons, drop-drop, getD-drop, getD-take, length-take-le}
 use lib.Dec.{T, ltb, eqb}
-use borrow.Author.Tests.{eqb-true, eqb-false, eq-eqb, ne-eqb, lt-ltb, ltb-true, ltb-false, not-false}
+use borrow.Author.Tests.{eqb-true, eqb-false, eq-eqb, ne-eqb, lt-ltb, ltb-true, ltb-false, not-true, not-false}
 use Rattle.wire.specs.Lists.{agree, any, every}
 use Rattle.entry_id.specs.Text.{splitOn, onFirst, notColon}
 use Rattle.wire.specs.Bytes.{same, common}
 use Rattle.entry_id.proofs.TextLaws.{split-last, split-skip, split-some, every-imp}
-use Rattle.wire.proofs.Bools.{cases, byBool, clash, and-both, or-true, and-false, of-true, is-true, and-t, or-l, or-r}
+use Rattle.wire.proofs.Bools.{cases, byBool, clash, and-both, or-true, and-false, of-true, is-true, and-l, and-r, and-t, or-l, or-r}
 use Rattle.wire.proofs.ByteLaws.{same-refl, same-eq, same-length, same-common}
 use Rattle.entry_id.specs.Meaning.{piecesOf}
 use Rattle.entry_id.proofs.ReadBack.{no-colon}
 use Rattle.canonical_form.specs.Scan.{part, Run, piecesAt, endsAt, MeetIs}
 use Rattle.entry_id.specs.Canonical.{headOf, within, signByte, sameButSign, compatibleText, mixedText}
-use Rattle.canonical_form.proofs.RunLaws.{part-drop}
+use Rattle.canonical_form.proofs.RunLaws.{part-drop, part-start}
 use Rattle.canonical_form.proofs.SpanLaws.{pieces-here, pieces-none}
 use native.Mathlib.Omega.{arith}
 use native.Mathlib.Numerals.{add-one}
@@ -74,9 +74,47 @@ pub within-end : (x : List ℕ) (at : ℕ) (qs : List (List ℕ)) → length x �
 unfolding within every
 within-end x at qs k = rw (pieces-none x at k)
 
--- ---- names
-
 -- ---- whole texts
+
+-- ---- common starts
+
+pub common-le : (s t : List ℕ) → common s t ≤ length s
+unfolding common
+common-le [] t = omega arith
+common-le (x ∷ s) [] = omega arith
+common-le (x ∷ s) (y ∷ t) = byBool (eqb x y)
+    (λ e. let z : common (x ∷ s) (y ∷ t) ≡ suc (common s t) = rw e in omega (arith, common-le s t))
+    (λ e. let z : common (x ∷ s) (y ∷ t) ≡ 0 = rw e in omega arith)
+
+common-within : (s t : List ℕ) → common s t ≤ length t
+unfolding common
+common-within [] t = omega arith
+common-within (x ∷ s) [] = omega arith
+common-within (x ∷ s) (y ∷ t) = byBool (eqb x y)
+    (λ e. let z : common (x ∷ s) (y ∷ t) ≡ suc (common s t) = rw e in omega (arith, common-within s t))
+    (λ e. let z : common (x ∷ s) (y ∷ t) ≡ 0 = rw e in omega arith)
+
+-- behind it the bytes differ
+common-apart : (s t : List ℕ) → common s t < length s → common s t < length t → eqb (getD s (common s t) 0) (getD t (common s t) 0) ≡ false
+unfolding common
+common-apart [] t h k = absurd (omega arith)
+common-apart (x ∷ s) [] h k = absurd (omega arith)
+common-apart (x ∷ s) (y ∷ t) h k = byBool (eqb x y)
+    (λ e. let z : common (x ∷ s) (y ∷ t) ≡ suc (common s t) = rw e in rw z (common-apart s t (omega arith) (omega arith)))
+    (λ e. let z : common (x ∷ s) (y ∷ t) ≡ 0 = rw e in rw z e)
+
+common-take : (s t : List ℕ) (n : ℕ) → n ≤ common s t → take n s ≡ take n t
+unfolding common
+common-take s t zero h = refl
+common-take [] t (suc n) h = absurd (omega arith)
+common-take (x ∷ s) [] (suc n) h = absurd (omega arith)
+common-take (x ∷ s) (y ∷ t) (suc n) h = byBool (eqb x y)
+    (λ e. let z : common (x ∷ s) (y ∷ t) ≡ suc (common s t) = rw e in ap₂ (λ a l. a ∷ l) (eqb-true x y e) (common-take s t n (omega arith)))
+    (λ e. let z : common (x ∷ s) (y ∷ t) ≡ 0 = rw e in absurd (omega arith))
+
+common-get : (s t : List ℕ) (i : ℕ) → i < common s t → getD s i 0 ≡ getD t i 0
+common-get s t i h =
+    sym (getD-take (suc i) s i 0 (omega arith)) ∙ ap (λ l. getD l i 0) (common-take s t (suc i) (omega arith)) ∙ getD-take (suc i) t i 0 (omega arith)
 
 -- the head of a text, byte by byte
 head-none : headOf [] ≡ []
@@ -111,40 +149,90 @@ module _ (x : List ℕ) (i : ℕ) where
   head-on : endsAt x i ≡ false → headOf (drop i x) ≡ getD x i 0 ∷ headOf (drop (suc i) x)
   head-on e = let g = goes-on e in rw (drop-cons x i 0 (g .0)) (head-more (getD x i 0) (drop (suc i) x) (g .1))
 
-  pub plain-here : endsAt x i ≡ false → notColon (getD x i 0) ≡ true
-  unfolding notColon
-  plain-here e = ap not (ne-eqb (getD x i 0) 58 (goes-on e .1))
-
-  pub stop-here : endsAt x i ≡ true → i < length x → notColon (getD x i 0) ≡ false
+  stop-here : endsAt x i ≡ true → i < length x → notColon (getD x i 0) ≡ false
   unfolding notColon endsAt
   stop-here e k = ap not (rw (lt-ltb i (length x) k) at e)
 
 module _ (a b : List ℕ) (i : ℕ) where
-  pub meet-short : endsAt a i ≡ false → length b ≤ i → same (headOf (drop i a)) (headOf (drop i b)) ≡ false
+  meet-short : endsAt a i ≡ false → length b ≤ i → same (headOf (drop i a)) (headOf (drop i b)) ≡ false
   unfolding same
   meet-short e k = rw (head-on a i e, drop-of-length-le b k, head-none)
 
-  pub meet-differ : endsAt a i ≡ false → i < length b → (getD a i 0 ≡ getD b i 0 → ⊥) → same (headOf (drop i a)) (headOf (drop i b)) ≡ false
+  meet-differ : endsAt a i ≡ false → i < length b → (getD a i 0 ≡ getD b i 0 → ⊥) → same (headOf (drop i a)) (headOf (drop i b)) ≡ false
   unfolding same
   meet-differ e k n = elim (cases (endsAt b i)) [
     | inl h ↦ rw (head-on a i e, head-ends b i h)
     | inr h ↦ rw (head-on a i e, head-on b i h, ne-eqb (getD a i 0) (getD b i 0) n)
   ]
 
-  pub meet-ends-b : endsAt a i ≡ false → i < length b → getD a i 0 ≡ getD b i 0 → endsAt b i ≡ false
+  meet-ends-b : endsAt a i ≡ false → i < length b → getD a i 0 ≡ getD b i 0 → endsAt b i ≡ false
   unfolding endsAt
   meet-ends-b e k q = rw (lt-ltb i (length b) k, sym q) (ne-eqb (getD a i 0) 58 (goes-on a i e .1))
 
-  pub meet-step : endsAt a i ≡ false → i < length b → getD a i 0 ≡ getD b i 0 → same (headOf (drop i a)) (headOf (drop i b)) ≡ same (headOf (drop (i + 1) a)) (headOf (drop (i + 1) b))
+  meet-step : endsAt a i ≡ false → i < length b → getD a i 0 ≡ getD b i 0 → same (headOf (drop i a)) (headOf (drop i b)) ≡ same (headOf (drop (i + 1) a)) (headOf (drop (i + 1) b))
   unfolding same
   meet-step e k q = rw (add-one i, head-on a i e, head-on b i (meet-ends-b e k q), eq-eqb (getD a i 0) (getD b i 0) q)
 
-  pub meet-end : endsAt a i ≡ true → same (headOf (drop i a)) (headOf (drop i b)) ≡ endsAt b i
+  meet-end : endsAt a i ≡ true → same (headOf (drop i a)) (headOf (drop i b)) ≡ endsAt b i
   unfolding same
   meet-end e = elim (cases (endsAt b i)) [
     | inl h ↦ rw (h, head-ends a i e, head-ends b i h)
     | inr h ↦ rw (h, head-ends a i e, head-on b i h)
   ]
+
+every-get : (p : ℕ → Bool) (l : List ℕ) → T (every p l) → (k : ℕ) → k < length l → p (getD l k 0) ≡ true
+unfolding every
+every-get p [] t k h = absurd (omega arith)
+every-get p (x ∷ l) t zero h = is-true _ (and-l (p x) (every p l) t)
+every-get p (x ∷ l) t (suc k) h = every-get p l (and-r (p x) (every p l) t) k (omega arith)
+
+-- a head that ends at e
+module _ (x : List ℕ) (e : ℕ) (r : Run notColon x 0 e) where
+  head-goes : (k : ℕ) → k < e → endsAt x k ≡ false
+  unfolding endsAt notColon
+  head-goes k h =
+      let t : T (every notColon (take e x)) = subst (λ z. T (every notColon z)) (part-start x e) (r .passed) in
+      let l : k < length (take e x) = omega (arith, length-take-le e x (r .high)) in
+      let q : notColon (getD x k 0) ≡ true = ap notColon (sym (getD-take e x k 0 h)) ∙ every-get notColon (take e x) t k l in
+      rw (lt-ltb k (length x) (omega (arith, r .high))) (not-true _ q)
+
+  head-stops : endsAt x e ≡ true
+  unfolding endsAt notColon
+  head-stops = elim (cases (ltb e (length x))) [
+    | inl h ↦ rw h (not-false _ (r .stop (ltb-true e (length x) h)))
+    | inr h ↦ rw h
+  ]
+
+-- the heads of two texts whose common start has n bytes, the first head ending at e
+module _ (a b : List ℕ) (e n : ℕ) (r : Run notColon a 0 e) (c : n ≡ common a b) where
+  heads-from : (k : ℕ) → k ≤ e → k ≤ n → same (headOf a) (headOf b) ≡ same (headOf (drop k a)) (headOf (drop k b))
+  heads-from zero h l = refl
+  heads-from (suc k) h l =
+      heads-from k (omega arith) (omega arith)
+      ∙ meet-step a b k (head-goes a e r k (omega arith)) (omega (arith, c, common-within a b)) (common-get a b k (omega (arith, c)))
+      ∙ ap (λ z. same (headOf (drop z a)) (headOf (drop z b))) (add-one k)
+
+  pub meet-apart : n < e → same (headOf a) (headOf b) ≡ false
+  meet-apart h =
+      let g = head-goes a e r n h in
+      heads-from n (omega arith) (omega arith) ∙ (elim (cases (ltb n (length b))) [
+        | inl t ↦
+            let l = ltb-true n (length b) t in
+            meet-differ a b n g l (eqb-false _ _ (ap (λ k. eqb (getD a k 0) (getD b k 0)) c ∙ common-apart a b (omega (arith, c, r .high)) (omega (arith, c))))
+        | inr f ↦ meet-short a b n g (ltb-false n (length b) f)
+      ])
+
+  module _ (h : e ≤ n) where
+    pub meet-at : same (headOf a) (headOf b) ≡ endsAt b e
+    meet-at = heads-from e (omega arith) h ∙ meet-end a b e (head-stops a e r)
+
+    pub meet-run : endsAt b e ≡ true → Run notColon b 0 e
+    meet-run t = record {
+      low = omega arith;
+      high = omega (arith, c, common-within a b);
+      passed = subst (λ z. T (every notColon z)) (part-start a e ∙ common-take a b e (omega (arith, c)) ∙ sym (part-start b e)) (r .passed);
+      stop = stop-here b e t;
+    }
 
 module _ (a b : List ℕ) (r : ℕ) (m : MeetIs a b r) where
   pub compatible-yes : 0 < r → within (piecesAt b (r - 1)) (piecesAt a (r - 1)) ≡ compatibleText a b
@@ -195,14 +283,6 @@ alike-lengths (x ∷ a) (y ∷ b) h = rw (alike-lengths a b (λ (e : length a �
 pub rest-is : (l : List ℕ) (i : ℕ) → take (length l - i) (drop i l) ≡ drop i l
 rest-is l i = take-all (length l - i) (drop i l) (omega (arith, length-drop i l))
 
-pub common-le : (s t : List ℕ) → common s t ≤ length s
-unfolding common
-common-le [] t = omega arith
-common-le (x ∷ s) [] = omega arith
-common-le (x ∷ s) (y ∷ t) = byBool (eqb x y)
-    (λ e. let z : common (x ∷ s) (y ∷ t) ≡ suc (common s t) = rw e in omega (arith, common-le s t))
-    (λ e. let z : common (x ∷ s) (y ∷ t) ≡ 0 = rw e in omega arith)
-
 -- the common start decides nothing
 alike-common : (s t : List ℕ) → agree sameButSign s t ≡ agree sameButSign (drop (common s t) s) (drop (common s t) t)
 unfolding agree sameButSign common
@@ -211,15 +291,6 @@ alike-common [] (y ∷ t) = refl
 alike-common (x ∷ s) [] = refl
 alike-common (x ∷ s) (y ∷ t) = byBool (eqb x y) (λ e. rw e (alike-common s t))
     (λ e. let z : common (x ∷ s) (y ∷ t) ≡ 0 = rw e in ap (λ k. agree sameButSign (drop k (x ∷ s)) (drop k (y ∷ t))) (sym z))
-
--- behind it the bytes differ
-common-apart : (s t : List ℕ) → common s t < length s → common s t < length t → eqb (getD s (common s t) 0) (getD t (common s t) 0) ≡ false
-unfolding common
-common-apart [] t h k = absurd (omega arith)
-common-apart (x ∷ s) [] h k = absurd (omega arith)
-common-apart (x ∷ s) (y ∷ t) h k = byBool (eqb x y)
-    (λ e. let z : common (x ∷ s) (y ∷ t) ≡ suc (common s t) = rw e in rw z (common-apart s t (omega arith) (omega arith)))
-    (λ e. let z : common (x ∷ s) (y ∷ t) ≡ 0 = rw e in rw z e)
 
 -- at the end of a common start of n bytes
 module _ (a b : List ℕ) (n : ℕ) (c : n ≡ common a b) where

@@ -64,22 +64,17 @@ pub(crate) fn alike(a: &[u8], b: &[u8], n: usize) -> bool
     true
 }
 
-// Where the heads of a and b end, counted from 1, if they are the same; else 0. It stops at the first difference.
-pub(crate) fn meet(a: &[u8], b: &[u8]) -> usize
+// Where the heads of a and b end, counted from 1, if they are the same; else 0. The common start of a and b has n bytes.
+pub(crate) fn meet(a: &[u8], b: &[u8], n: usize) -> usize
+    requires { ⌜ n ≡ common (now a) (now b) ⌝ }
     ensures { λ r. ⌜ MeetIs (now (a .entry)) (now (b .entry)) r ⌝ }
 {
-    let mut i = 0;
-    while !ends(a, i) {
-        if b.len() <= i {
-            return 0;
-        }
-        if a[i] != b[i] {
-            return 0;
-        }
-        i += 1;
+    let e = colon(a, 0);
+    if n < e {
+        return 0;
     }
-    if ends(b, i) {
-        return i + 1;
+    if ends(b, e) {
+        return e + 1;
     }
     0
 }

@@ -69,10 +69,11 @@ pub fn canonical(id: &[u8], out: &mut [u8]) -> Form
 pub fn compatible(entry: &[u8], device: &[u8]) -> bool
     ensures { λ r. ⌜ r ≡ compatibleText (now (entry .entry)) (now (device .entry)) ⌝ }
 {
-    if wire::same_bytes(entry, device) {
+    let n = wire::common_prefix(entry, device);
+    if (n == entry.len()) & (n == device.len()) {
         return true;
     }
-    let m = compare::meet(entry, device);
+    let m = compare::meet(entry, device, n);
     if m == 0 {
         return false;
     }
@@ -102,7 +103,7 @@ pub fn relation_of(a: &[u8], b: &[u8]) -> Relation
             mixed: false,
         };
     }
-    let mixed = compare::meet(a, b) != 0;
+    let mixed = compare::meet(a, b, n) != 0;
     Relation { same: false, mixed }
 }
 

@@ -1,15 +1,16 @@
 use borrow.Author.Needs.{needs}
 use native.Mathlib.Omega.{arith}
 use mathlib.Core.Path.{sym, _∙_}
-use Rattle.canonical_form.proofs.TestLaws.{compatible-self, compatible-no, compatible-yes}
+use Rattle.canonical_form.proofs.TestLaws.{compatible-self, compatible-no, compatible-yes, whole-same}
 use Rattle.canonical_form.proofs.compatible.Statement.{statement}
 use Rattle.canonical_form.proofs.compatible.Tie as tie
 
-same-bytes-requires : tie.Need-same-bytes-requires
-same-bytes-requires c κs = search needs
+common-prefix-requires : tie.Need-common-prefix-requires
+common-prefix-requires c κs = search needs
 
 returns : tie.Need-returns
-returns c = compatible-self _ _ (sym (c .before .same-bytes .ensures) ∙ c .if1 .taken)
+returns c = let n = c .before .common-prefix in
+    compatible-self _ _ (sym (whole-same _ _ (n .result) (n .ensures)) ∙ c .if1 .taken)
 
 meet-requires : tie.Need-meet-requires
 meet-requires c κs = search needs
@@ -34,7 +35,7 @@ pub compatible-spec : {M : Type 1} → statement M
 compatible-spec =
     tie.close
     (tie.spec
-    same-bytes-requires
+    common-prefix-requires
     returns
     meet-requires
     returns-2
