@@ -16,15 +16,22 @@ LLVM := llvm
 .PHONY: test demo prove library harness calls stack compare second-test tool tool-test example install install-test damage bench compiler tools
 
 # The proofs and the must-fail edits first, then the library against the second program. `rt ci` removes target/, so its last line is kept outside.
-# Ten jobs keep two processors busy, since `rt ci` waits for the last crate of a level and the last edit of a group. The second program's own tests need no library and run beside it.
+# Ten jobs keep two processors busy, since `rt ci` waits for the last crate of a level and the last edit of a group. The second program's own tests need no
+# library and run beside the proofs; the archives are built beside the edits, when the first of these has been refused and every crate is proved.
 test: tools
 	rt fmt --check
 	kept=$$(mktemp -d); trap 'rm -rf "$$kept"' EXIT; \
 	nice $(MAKE) --no-print-directory second-test >"$$kept/second" 2>&1 & \
-	RT_JOBS=10 rt ci | tee "$$kept/verdict"; \
+	RT_JOBS=10 rt ci | tee "$$kept/verdict" | { \
+	    while IFS= read -r line; do \
+	        printf '%s\n' "$$line"; \
+	        if [[ $$line == 'rt: must-fail '* && ! -e $$kept/archives ]]; then $(MAKE) --no-print-directory harness >"$$kept/archives" 2>&1 & fi; \
+	    done; \
+	    wait; \
+	}; \
 	wait $$! || { cat "$$kept/second"; exit 1; }; \
-	cat "$$kept/second"; \
-	$(MAKE) --no-print-directory -j2 -O calls stack compare tool-test example install-test damage LLVM=; \
+	cat "$$kept/second" "$$kept/archives"; \
+	$(MAKE) --no-print-directory -j2 -O -o library -o harness calls stack compare tool-test example install-test damage LLVM=; \
 	tail -n 1 "$$kept/verdict"
 
 # What the tool does with a real bundle.
