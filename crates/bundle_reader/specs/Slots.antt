@@ -48,6 +48,7 @@ pub record Room (n : ℕ) (texts lens keys : List ℕ) : Type 0 where
   pub lens-room : n ≤ length lens
   pub keys-room : n ≤ length keys
 
+-- l with v in place i, if at all
 abbrev pub setIf : Bool → List ℕ → ℕ → ℕ → List ℕ
 setIf true l i v = set l i v
 setIf false l i v = l

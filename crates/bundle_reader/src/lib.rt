@@ -47,7 +47,7 @@ fn magic_is(s: &[u8]) -> bool
     requires { ⌜ 24 ≤ length (now s) ⌝ }
     ensures { λ r. ⌜ r ≡ same (take 24 (now (s .entry))) magic ⌝ }
 {
-    wire::same_bytes(&s[..24], b"__CLANG_OFFLOAD_BUNDLE__")
+    wire_read::same_bytes(&s[..24], b"__CLANG_OFFLOAD_BUNDLE__")
 }
 
 // 1 LENGTH, 2 MAGIC, 3 COUNT, or 0.
@@ -66,7 +66,7 @@ fn head(s: &[u8]) -> usize
     if s.len() < 32 {
         return 3;
     }
-    if 64 < wire::word8_at(s, 24) {
+    if 64 < wire_read::word8_at(s, 24) {
         return 3;
     }
     0
@@ -83,7 +83,7 @@ fn bad_row(s: &[u8], from: usize) -> bool
     if left < 24 {
         return true;
     }
-    let len = wire::word8_at(s, from + 16);
+    let len = wire_read::word8_at(s, from + 16);
     if len == 0 {
         return true;
     }
@@ -97,9 +97,9 @@ fn row_at(s: &[u8], at: usize) -> EntryRecord
     requires { ⌜ RowFits (now s) at ⌝ }
     ensures { λ r. ⌜ r ≡ heldRow (now (s .entry)) at ⌝ }
 {
-    let offset = wire::word8_at(s, at) as usize;
-    let size = wire::word8_at(s, at + 8) as usize;
-    let len = wire::word8_at(s, at + 16) as usize;
+    let offset = wire_read::word8_at(s, at) as usize;
+    let size = wire_read::word8_at(s, at + 8) as usize;
+    let len = wire_read::word8_at(s, at + 16) as usize;
     let id = at + 24;
     EntryRecord {
         id_start: id,
@@ -133,7 +133,7 @@ fn table_end(s: &[u8], n: usize) -> Table
         if bad_row(s, at) {
             return Table { bad: i, end: 0 };
         }
-        at = at + 24 + wire::word8_at(s, at + 16) as usize;
+        at = at + 24 + wire_read::word8_at(s, at + 16) as usize;
         i += 1;
     }
     Table { bad: i, end: at }
@@ -445,7 +445,7 @@ fn check_in(s: &[u8], texts: &mut [u8], lens: &mut [usize], keys: &mut [u64]) ->
     if 0 < first {
         return not_checked(first, 0);
     }
-    let n = wire::word8_at(s, 24) as usize;
+    let n = wire_read::word8_at(s, 24) as usize;
     let t = table_end(s, n);
     let bad = t.bad;
     if bad < n {
@@ -523,7 +523,7 @@ pub fn examine(bundle: &[u8], texts: &mut [u8; 16384], lens: &mut [usize; 64]) -
 pub fn check(bundle: &[u8]) -> Checked
     ensures { λ r. ⌜ r ≡ check idRules (now (bundle .entry)) ⌝ }
 {
-    if wire::word8_at(bundle, 24) <= 8 {
+    if wire_read::word8_at(bundle, 24) <= 8 {
         let mut few = [0u8; 2048];
         let mut few_lens = [0usize; 8];
         let mut few_keys = [0u64; 8];
@@ -630,7 +630,7 @@ pub fn pick(bundle: &[u8], device: &[u8]) -> Picked
     ensures { λ r. ⌜ r ≡ pick idRules (now (bundle .entry)) (now (device .entry)) ⌝ }
 {
     let mut name = [0u8; 256];
-    if wire::word8_at(bundle, 24) <= 8 {
+    if wire_read::word8_at(bundle, 24) <= 8 {
         let mut few = [0u8; 2048];
         let mut few_lens = [0usize; 8];
         let mut few_keys = [0u64; 8];

@@ -25,11 +25,11 @@ unfolding common
 common-self [] = refl
 common-self (y ∷ a) = rw (eq-eqb y y refl) (ap suc (common-self a))
 
-common-le : (a b : List ℕ) → common a b ≤ length b
+pub common-within : (a b : List ℕ) → common a b ≤ length b
 unfolding common
-common-le [] b = omega arith
-common-le (y ∷ a) [] = omega arith
-common-le (y ∷ a) (z ∷ b) = cond-ind (λ r. r ≤ suc (length b)) (eqb y z) (suc (common a b)) 0 (omega (arith, common-le a b)) (omega arith)
+common-within [] b = omega arith
+common-within (y ∷ a) [] = omega arith
+common-within (y ∷ a) (z ∷ b) = cond-ind (λ r. r ≤ suc (length b)) (eqb y z) (suc (common a b)) 0 (omega (arith, common-within a b)) (omega arith)
 
 pub same-not : (a b : List ℕ) → common a b < length b → same a b ≡ false
 same-not a b h = ne-same a b (λ e. let k : common a b ≡ length b = ap (λ c. common c b) e ∙ common-self b in omega arith)
@@ -39,7 +39,7 @@ same-whole a b h = elim (cases (eqb (length a) (length b))) [
   | inl e ↦ same-common a b (eqb-true (length a) (length b) e)
   | inr e ↦
       let n = eqb-false (length a) (length b) e in
-      let k = common-le a b in
+      let k = common-within a b in
       ne-eqb (common a b) (length a) (λ q. n (omega arith)) ∙ sym (same-length a b n)
 ]
 

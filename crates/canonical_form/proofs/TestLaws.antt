@@ -19,6 +19,7 @@ use Rattle.entry_id.proofs.ReadBack.{no-colon}
 use Rattle.canonical_form.specs.Scan.{part, Run, piecesAt, endsAt, MeetIs}
 use Rattle.entry_id.specs.Canonical.{headOf, within, signByte, sameButSign, compatibleText, mixedText}
 use Rattle.canonical_form.proofs.RunLaws.{part-drop, part-start}
+use Rattle.canonical_form.proofs.OrderLaws.{common-within}
 use Rattle.canonical_form.proofs.SpanLaws.{pieces-here, pieces-none}
 use native.Mathlib.Omega.{arith}
 use native.Mathlib.Numerals.{add-one}
@@ -84,14 +85,6 @@ common-le [] t = omega arith
 common-le (x ∷ s) [] = omega arith
 common-le (x ∷ s) (y ∷ t) = byBool (eqb x y)
     (λ e. let z : common (x ∷ s) (y ∷ t) ≡ suc (common s t) = rw e in omega (arith, common-le s t))
-    (λ e. let z : common (x ∷ s) (y ∷ t) ≡ 0 = rw e in omega arith)
-
-common-within : (s t : List ℕ) → common s t ≤ length t
-unfolding common
-common-within [] t = omega arith
-common-within (x ∷ s) [] = omega arith
-common-within (x ∷ s) (y ∷ t) = byBool (eqb x y)
-    (λ e. let z : common (x ∷ s) (y ∷ t) ≡ suc (common s t) = rw e in omega (arith, common-within s t))
     (λ e. let z : common (x ∷ s) (y ∷ t) ≡ 0 = rw e in omega arith)
 
 -- behind it the bytes differ

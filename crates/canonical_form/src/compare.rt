@@ -16,7 +16,7 @@ fn has_piece(x: &[u8], stop: usize, p: &[u8]) -> bool
     let mut at = stop;
     while at < x.len() {
         let e = colon(x, at + 1);
-        if wire::same_bytes(p, &x[at + 1..e]) {
+        if wire_read::same_bytes(p, &x[at + 1..e]) {
             return true;
         }
         at = e;
@@ -59,7 +59,7 @@ pub(crate) fn alike(a: &[u8], b: &[u8], n: usize) -> bool
             return false;
         }
         let i = at + 1;
-        at = i + wire::common_prefix(&a[i..], &b[i..]);
+        at = i + wire_read::common_prefix(&a[i..], &b[i..]);
     }
     true
 }

@@ -95,7 +95,7 @@ struct Standing {
 fn compared(a: &[u8], b: &[u8]) -> Standing
     ensures { λ r. ⌜ (r .before ≡ before (now (a .entry)) (now (b .entry))) × (r .same ≡ same (now (a .entry)) (now (b .entry))) ⌝ }
 {
-    let n = wire::common_prefix(a, b);
+    let n = wire_read::common_prefix(a, b);
     if n < b.len() {
         if n < a.len() {
             return Standing {

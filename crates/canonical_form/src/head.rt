@@ -14,16 +14,16 @@ fn is_kind(k: &[u8]) -> bool
     ensures { λ r. ⌜ r ≡ any (same (now (k .entry))) kinds ⌝ }
 {
     if k.len() == 3 {
-        return wire::same_bytes(k, b"hip");
+        return wire_read::same_bytes(k, b"hip");
     }
     if k.len() == 4 {
-        return wire::same_bytes(k, b"host");
+        return wire_read::same_bytes(k, b"host");
     }
     if k.len() == 5 {
-        return wire::same_bytes(k, b"hipv4");
+        return wire_read::same_bytes(k, b"hipv4");
     }
     if k.len() == 6 {
-        return wire::same_bytes(k, b"openmp");
+        return wire_read::same_bytes(k, b"openmp");
     }
     false
 }

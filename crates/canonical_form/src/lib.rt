@@ -25,16 +25,16 @@ fn last_word(head: &[u8]) -> u64
     ensures { λ r. ⌜ r ≡ word 8 (now (head .entry)) (length (now (head .entry)) - 8) ⌝ }
 {
     if head.len() < 8 {
-        return wire::word8_at(head, 0);
+        return wire_read::word8_at(head, 0);
     }
-    wire::word8_at(head, head.len() - 8)
+    wire_read::word8_at(head, head.len() - 8)
 }
 
 // The number of a head.
 fn head_number(head: &[u8]) -> u64
     ensures { λ r. ⌜ r ≡ headNumber (now (head .entry)) ⌝ }
 {
-    std::num::wrapping_add_u64(wire::word8_at(head, 0), last_word(head))
+    std::num::wrapping_add_u64(wire_read::word8_at(head, 0), last_word(head))
 }
 
 fn no_form() -> Form
@@ -69,7 +69,7 @@ pub fn canonical(id: &[u8], out: &mut [u8]) -> Form
 pub fn compatible(entry: &[u8], device: &[u8]) -> bool
     ensures { λ r. ⌜ r ≡ compatibleText (now (entry .entry)) (now (device .entry)) ⌝ }
 {
-    let n = wire::common_prefix(entry, device);
+    let n = wire_read::common_prefix(entry, device);
     if (n == entry.len()) & (n == device.len()) {
         return true;
     }
@@ -90,7 +90,7 @@ pub struct Relation {
 pub fn relation_of(a: &[u8], b: &[u8]) -> Relation
     ensures { λ r. ⌜ r ≡ record { same = sameText (now (a .entry)) (now (b .entry)); mixed = mixedText (now (a .entry)) (now (b .entry)) } ⌝ }
 {
-    let n = wire::common_prefix(a, b);
+    let n = wire_read::common_prefix(a, b);
     if (n == a.len()) & (n == b.len()) {
         return Relation {
             same: true,

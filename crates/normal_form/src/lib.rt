@@ -28,7 +28,7 @@ fn sift(texts: &[u8], lens: &[usize], n: usize, order: &mut [usize], i: usize)
         let k = order[j + 1];
         let id = bundle_reader::slot(texts, lens, i);
         let next = bundle_reader::slot(texts, lens, k);
-        if wire::comes_before(id, next) {
+        if wire_read::comes_before(id, next) {
             break;
         }
         order[j] = k;
@@ -122,10 +122,10 @@ fn put_row(out: &mut [u8], at: usize, offset: usize, size: usize, id: &[u8])
     requires { ⌜ at + 24 + length (now id) ≤ length (now out) ⌝ }
     ensures { λ _. ⌜ now (out .exit) ≡ overwrite (now (out .entry)) at (rowBytes (record { offset = offset; size = size; id = now (id .entry) })) ⌝ }
 {
-    wire::put_word8(out, at, offset as u64);
-    wire::put_word8(out, at + 8, size as u64);
-    wire::put_word8(out, at + 16, id.len() as u64);
-    wire::copy_at(out, at + 24, id);
+    wire_write::put_word8(out, at, offset as u64);
+    wire_write::put_word8(out, at + 8, size as u64);
+    wire_write::put_word8(out, at + 16, id.len() as u64);
+    wire_write::copy_at(out, at + 24, id);
 }
 
 // The rows of n entries in an order, from 32 on: the images are to lie one after another from `base` on.
@@ -177,7 +177,7 @@ fn put_images(
         let r = rows[k];
         let start = r.image_start;
         let size = r.image_len;
-        wire::copy_at(out, at, &src[start..start + size]);
+        wire_write::copy_at(out, at, &src[start..start + size]);
         at = at + size;
         i += 1;
     }
@@ -198,8 +198,8 @@ fn put_bundle(
     requires { ⌜ (base ≡ packedEnd (inOrder (now src) rows (now texts) (now lens) n order)) × (packedLength (inOrder (now src) rows (now texts) (now lens) n order) ≤ length (now out)) ⌝ }
     ensures { λ _. ⌜ now (out .exit) ≡ over (encode (inOrder (now (src .entry)) rows (now (texts .entry)) (now (lens .entry)) n order)) (now (out .entry)) ⌝ }
 {
-    wire::copy_at(out, 0, b"__CLANG_OFFLOAD_BUNDLE__");
-    wire::put_word8(out, 24, n as u64);
+    wire_write::copy_at(out, 0, b"__CLANG_OFFLOAD_BUNDLE__");
+    wire_write::put_word8(out, 24, n as u64);
     put_table(rows, texts, lens, n, order, base, out);
     put_images(src, rows, n, order, base, out);
 }

@@ -74,7 +74,7 @@ fn key_before(s: &[u8], pairs: [StringPair; 32], i: usize) -> bool
     let mut j = 0;
     while j < i {
         let other = pairs[j];
-        if wire::same_bytes(bytes_at(s, other.key), key) {
+        if wire_read::same_bytes(bytes_at(s, other.key), key) {
             return true;
         }
         j += 1;

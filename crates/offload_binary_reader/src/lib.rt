@@ -54,8 +54,8 @@ fn read_pair(o: &[u8], from: usize, table: usize, i: usize) -> ReadPair
         },
     };
     let at = table + 16 * i;
-    let key = wire::word8_at(o, at) as usize;
-    let text = wire::word8_at(o, at + 8) as usize;
+    let key = wire_read::word8_at(o, at) as usize;
+    let text = wire_read::word8_at(o, at + 8) as usize;
     let key_len = string_len(o, key);
     let text_len = string_len(o, text);
     if 256 < key_len {
@@ -115,11 +115,11 @@ fn bad_head(b: &[u8]) -> bool
         return true;
     }
     let magic = offload_binary_parts::MAGIC;
-    if wire::same_bytes(
+    if wire_read::same_bytes(
         offload_binary_parts::bytes_at(b, Part { start: 0, len: 4 }),
         &magic,
     ) {
-        return wire::word4_at(b, 4) != 1;
+        return wire_read::word4_at(b, 4) != 1;
     }
     true
 }
@@ -128,15 +128,15 @@ fn bad_head(b: &[u8]) -> bool
 fn bad_span(b: &[u8]) -> bool
     ensures { λ r. ⌜ r ≡ badSpan (now (b .entry)) ⌝ }
 {
-    let size = wire::word8_at(b, 8) as usize;
-    let entry = wire::word8_at(b, 16) as usize;
+    let size = wire_read::word8_at(b, 8) as usize;
+    let entry = wire_read::word8_at(b, 16) as usize;
     if size < 72 {
         return true;
     }
     if b.len() < size {
         return true;
     }
-    if wire::word8_at(b, 24) != 40 {
+    if wire_read::word8_at(b, 24) != 40 {
         return true;
     }
     if entry < 32 {
@@ -178,14 +178,14 @@ fn read_entry(o: &[u8], at: usize) -> Entry
     ensures { λ r. ⌜ r ≡ entryOf (now (o .entry)) at ⌝ }
 {
     Entry {
-        image_kind: wire::word2_at(o, at),
-        offload_kind: wire::word2_at(o, at + 2),
-        flags: wire::word4_at(o, at + 4),
-        table: wire::word8_at(o, at + 8) as usize,
-        count: wire::word8_at(o, at + 16) as usize,
+        image_kind: wire_read::word2_at(o, at),
+        offload_kind: wire_read::word2_at(o, at + 2),
+        flags: wire_read::word4_at(o, at + 4),
+        table: wire_read::word8_at(o, at + 8) as usize,
+        count: wire_read::word8_at(o, at + 16) as usize,
         image: Part {
-            start: wire::word8_at(o, at + 24) as usize,
-            len: wire::word8_at(o, at + 32) as usize,
+            start: wire_read::word8_at(o, at + 24) as usize,
+            len: wire_read::word8_at(o, at + 32) as usize,
         },
     }
 }
@@ -312,7 +312,7 @@ pub fn binary_at(s: &[u8], position: usize) -> Answer
     if bad_span(left) {
         return refused(14, position);
     }
-    let size = wire::word8_at(left, 8) as usize;
-    let entry = wire::word8_at(left, 16) as usize;
+    let size = wire_read::word8_at(left, 8) as usize;
+    let entry = wire_read::word8_at(left, 16) as usize;
     read_body(s, position, size, entry)
 }

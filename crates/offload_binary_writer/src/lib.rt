@@ -102,7 +102,7 @@ fn put_zeros(out: &mut [u8], at: usize, n: usize)
     ensures { λ _. ⌜ now (out .exit) ≡ overwrite (now (out .entry)) at (replicate n 0) ⌝ }
 {
     let zeros = [0u8; 8];
-    wire::copy_at(
+    wire_write::copy_at(
         out,
         at,
         offload_binary_parts::bytes_at(&zeros, Part { start: 0, len: n }),
@@ -114,7 +114,7 @@ fn put_text(out: &mut [u8], at: usize, text: &[u8])
     requires { ⌜ at + length (now text) + 1 ≤ length (now out) ⌝ }
     ensures { λ _. ⌜ now (out .exit) ≡ overwrite (now (out .entry)) at (now (text .entry) ++ (0 ∷ [])) ⌝ }
 {
-    wire::copy_at(out, at, text);
+    wire_write::copy_at(out, at, text);
     put_zeros(out, at + text.len(), 1);
 }
 
@@ -124,11 +124,11 @@ fn write_header(out: &mut [u8], size: usize)
     ensures { λ _. ⌜ now (out .exit) ≡ overwrite (now (out .entry)) 0 (headerBytes size) ⌝ }
 {
     let magic = offload_binary_parts::MAGIC;
-    wire::copy_at(out, 0, &magic);
-    wire::put_word4(out, 4, 1);
-    wire::put_word8(out, 8, size as u64);
-    wire::put_word8(out, 16, 32);
-    wire::put_word8(out, 24, 40);
+    wire_write::copy_at(out, 0, &magic);
+    wire_write::put_word4(out, 4, 1);
+    wire_write::put_word8(out, 8, size as u64);
+    wire_write::put_word8(out, 16, 32);
+    wire_write::put_word8(out, 24, 40);
 }
 
 // The entry, at 32.
@@ -137,13 +137,13 @@ fn write_entry(out: &mut [u8], tags: Tags, count: usize, image: usize, len: usiz
     ensures { λ _. ⌜ now (out .exit) ≡ overwrite (now (out .entry)) 32 (fieldBytes (entryFields tags count image len)) ⌝ }
 {
     let flags = tags.flags as u64;
-    wire::put_word2(out, 32, tags.image_kind);
-    wire::put_word2(out, 34, tags.offload_kind);
-    wire::put_word4(out, 36, flags);
-    wire::put_word8(out, 40, 72);
-    wire::put_word8(out, 48, count as u64);
-    wire::put_word8(out, 56, image as u64);
-    wire::put_word8(out, 64, len as u64);
+    wire_write::put_word2(out, 32, tags.image_kind);
+    wire_write::put_word2(out, 34, tags.offload_kind);
+    wire_write::put_word4(out, 36, flags);
+    wire_write::put_word8(out, 40, 72);
+    wire_write::put_word8(out, 48, count as u64);
+    wire_write::put_word8(out, 56, image as u64);
+    wire_write::put_word8(out, 64, len as u64);
 }
 
 // The offsets of the first m strings, at 72: the strings start at `first`.
@@ -156,7 +156,7 @@ fn write_offsets(out: &mut [u8], buf: &[u8], pairs: [StringPair; 32], m: usize, 
     while j < m {
         let text = text_in(buf, pairs, j);
         let place = 72 + 8 * j;
-        wire::put_word8(out, place, at as u64);
+        wire_write::put_word8(out, place, at as u64);
         at = at + text.len() + 1;
         j += 1;
     }
@@ -219,7 +219,7 @@ fn write_parts(
     write_offsets(out, buf, pairs, 2 * n, strings);
     write_texts(out, buf, pairs, 2 * n, strings);
     put_zeros(out, end, start - end);
-    wire::copy_at(out, start, image);
+    wire_write::copy_at(out, start, image);
     put_zeros(out, stop, size - stop);
 }
 

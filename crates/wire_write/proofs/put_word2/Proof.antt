@@ -1,0 +1,28 @@
+use Rattle.wire.specs.Word.{bytesOf}
+use borrow.Author.Needs.{needs}
+use Rattle.wire_write.proofs.put_word2.Statement.{statement}
+use Rattle.wire_write.proofs.put_word2.Tie as tie
+
+cast-t6 : tie.Need-cast-t6
+cast-t6 c = search needs
+
+cast-t9 : tie.Need-cast-t9
+cast-t9 c = search needs
+
+slice-aggregate-copy-at : tie.Need-slice-aggregate-copy-at
+slice-aggregate-copy-at c = search needs
+
+copy-at-requires : tie.Need-copy-at-requires
+copy-at-requires c κs = search needs
+
+same-length : tie.Need-same-length
+same-length c = search needs
+
+returns : tie.Need-returns
+unfolding bytesOf
+returns c = cc
+
+pub put-word2-spec : {M : Type 1} → statement M
+put-word2-spec =
+    tie.close
+    (tie.spec cast-t6 cast-t9 slice-aggregate-copy-at copy-at-requires same-length returns)
