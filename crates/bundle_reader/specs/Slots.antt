@@ -15,7 +15,7 @@ use Rattle.bundle.specs.Check.{badRow, badId, outside, unrefused, bundleStop}
 use Rattle.bundle.specs.Accepted.{RowFits}
 use Rattle.bundle.specs.Records.{noRecord, rowsOf}
 use Rattle.bundle.specs.declared.EntryRecord.{EntryRecord}
-use Rattle.canonical_form.specs.declared.Relation.{Relation}
+use Rattle.entry_compare.specs.declared.Relation.{Relation}
 use Rattle.bundle_reader.specs.Examined.{filled, slots, text, form, formLength, rowsIn}
 
 -- ---- rows

@@ -21,7 +21,7 @@ use bundle::Checked;
 use bundle::EntryRecord;
 use bundle::Picked;
 use canonical_form::Form;
-use canonical_form::Relation;
+use entry_compare::Relation;
 
 // The first bad row of a table, or the count; where no row is bad, the table's end.
 struct Table {
@@ -269,7 +269,7 @@ fn related(texts: &[u8], lens: &[usize], keys: &[u64], j: usize, i: usize) -> Re
             mixed: false,
         };
     }
-    canonical_form::relation_of(slot(texts, lens, j), slot(texts, lens, i))
+    entry_compare::relation_of(slot(texts, lens, j), slot(texts, lens, i))
 }
 
 // The first slot with the number of slot i, or i.
@@ -550,7 +550,7 @@ fn compatible_at(
     if keys[k] != key {
         return false;
     }
-    canonical_form::compatible(slot(texts, lens, k), name)
+    entry_compare::compatible(slot(texts, lens, k), name)
 }
 
 // The first of n slots whose text is compatible with the device name, or n.

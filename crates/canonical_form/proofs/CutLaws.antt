@@ -14,8 +14,8 @@ use Rattle.wire.proofs.Bools.{and-l, and-r, is-false, cases}
 use Rattle.entry_id.proofs.TextLaws.{split-last, split-skip, split-some}
 use Rattle.entry_id.specs.Meaning.{fieldsOf, piecesOf, fieldByte, nameByte}
 use Rattle.entry_id.proofs.ReadBack.{no-dash}
-use Rattle.canonical_form.specs.Scan.{part, Run, endsAt, piecesAt}
-use Rattle.canonical_form.proofs.RunLaws.{part-drop, byte-inside}
+use Rattle.entry_id.specs.Scan.{part, Run, endsAt, piecesAt}
+use Rattle.entry_id.proofs.RunLaws.{part-drop, byte-inside}
 
 -- ---- a text that starts with a run
 

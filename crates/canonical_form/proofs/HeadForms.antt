@@ -14,8 +14,9 @@ use Rattle.wire.specs.Bytes.{same, empty}
 use Rattle.wire.proofs.Bools.{and-r, and-t, is-false, cases}
 use Rattle.entry_id.proofs.TextLaws.{split-some}
 use Rattle.entry_id.specs.Meaning.{fieldsOf, piecesOf, fieldByte, namesProcessor, fifthIsProcessor, meaningOf, meaning, sixFields, kinds, valid}
-use Rattle.canonical_form.specs.Scan.{part, Run, Triple, HeadAt, HeadIs, endsAt, piecesAt}
-use Rattle.canonical_form.proofs.RunLaws.{part-none, part-length, part-cons, take-step, byte-inside}
+use Rattle.entry_id.specs.Scan.{part, Run, endsAt, piecesAt}
+use Rattle.canonical_form.specs.Heads.{Triple, HeadAt, HeadIs}
+use Rattle.entry_id.proofs.RunLaws.{part-none, part-length, part-cons, take-step, byte-inside}
 use Rattle.canonical_form.proofs.CutLaws.{skip-fields, skip-pieces, last-fields, bad-fields}
 use Rattle.canonical_form.proofs.HeadLaws.{valid-bytes, valid-count, not-t}
 

@@ -12,8 +12,9 @@ use Rattle.wire.specs.Bytes.{same, empty}
 use Rattle.wire.proofs.Bools.{and-l, and-r, and-t, is-false, of-true}
 use Rattle.entry_id.specs.Meaning.{fieldsOf, piecesOf, fieldByte, namesProcessor, fifthIsProcessor, meaningOf, meaning, kinds, shaped, proper, valid}
 use Rattle.entry_id.proofs.ReadBack.{any-holds, Proper, parts, kind-bytes, proper-meaning}
-use Rattle.canonical_form.specs.Scan.{part, Run, Next, Triple, filled}
-use Rattle.canonical_form.proofs.RunLaws.{part-none, part-start, part-length, take-step, byte-inside, some-of}
+use Rattle.entry_id.specs.Scan.{part, Run}
+use Rattle.canonical_form.specs.Heads.{Next, Triple, filled}
+use Rattle.entry_id.proofs.RunLaws.{part-none, part-start, part-length, take-step, byte-inside, some-of}
 use Rattle.canonical_form.proofs.CutLaws.{at-dash, at-end, at-bad, cut, skip-fields, skip-pieces}
 
 -- ---- filled

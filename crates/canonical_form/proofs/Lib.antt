@@ -1,5 +1,4 @@
 pub mod ClassLaws
-pub mod RunLaws
 pub mod CutLaws
 pub mod HeadLaws
 pub mod HeadForms
@@ -8,4 +7,3 @@ pub mod WriteLaws
 pub mod PieceLaws
 pub mod SpanLaws
 pub mod PlanLaws
-pub mod TestLaws

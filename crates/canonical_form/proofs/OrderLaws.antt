@@ -13,7 +13,7 @@ use lib.Seq.{take-suc, take-all, take-suc-set, take-set-le, take-set-lt, drop-se
 use Rattle.wire.specs.Order.{insertBy, risingBy, sortBy, distinctBy}
 use Rattle.wire.specs.Lists.{any}
 use Rattle.wire.proofs.Bools.{cases, cond-ind, is-true, is-false, of-true, and-l, and-r, and-true}
-use Rattle.wire.proofs.ByteLaws.{before-irrefl, before-trans, same-eq, same-common, same-length, ne-same}
+use Rattle.wire.proofs.ByteLaws.{before-irrefl, before-trans, same-eq, same-common, same-length, ne-same, common-within}
 use Rattle.wire.proofs.SortLaws.{distinct-rising, rising-distinct, sort-any}
 use Rattle.wire.specs.Bytes.{before, same, common}
 use Rattle.canonical_form.specs.Spans.{nameOf, placed, newName}
@@ -24,12 +24,6 @@ common-self : (a : List ℕ) → common a a ≡ length a
 unfolding common
 common-self [] = refl
 common-self (y ∷ a) = rw (eq-eqb y y refl) (ap suc (common-self a))
-
-pub common-within : (a b : List ℕ) → common a b ≤ length b
-unfolding common
-common-within [] b = omega arith
-common-within (y ∷ a) [] = omega arith
-common-within (y ∷ a) (z ∷ b) = cond-ind (λ r. r ≤ suc (length b)) (eqb y z) (suc (common a b)) 0 (omega (arith, common-within a b)) (omega arith)
 
 pub same-not : (a b : List ℕ) → common a b < length b → same a b ≡ false
 same-not a b h = ne-same a b (λ e. let k : common a b ≡ length b = ap (λ c. common c b) e ∙ common-self b in omega arith)

@@ -18,10 +18,10 @@ use Rattle.entry_id.proofs.TextLaws.{every-append, every-imp, split-last, split
 use Rattle.entry_id.specs.Meaning.{feature, piece, sign, signed, named, nameByte}
 use Rattle.entry_id.proofs.CompareLaws.{piece-feature}
 use Rattle.entry_id.proofs.ReadBack.{no-colon}
-use Rattle.canonical_form.specs.Scan.{part, Run, endsAt, piecesAt}
+use Rattle.entry_id.specs.Scan.{part, Run, endsAt, piecesAt}
 use Rattle.canonical_form.specs.Spans.{pieceOk, Piece}
 use Rattle.entry_id.specs.Canonical.{signByte}
-use Rattle.canonical_form.proofs.RunLaws.{part-drop, part-more, part-length, byte-inside, some-of}
+use Rattle.entry_id.proofs.RunLaws.{part-drop, part-more, part-length, byte-inside, some-of}
 
 some-none : T (not (empty {A = ℕ} [])) → ⊥
 unfolding empty

@@ -22,14 +22,15 @@ use Rattle.entry_id.proofs.TextLaws.{split-some, join-split}
 use Rattle.entry_id.specs.Meaning.{byName, Feature, fieldsOf, piecesOf, feature, meaningOf, meaning, piece, sixFields, canonicalOf, fieldByte, kinds, signed, named, shaped, proper, valid, canon}
 use Rattle.entry_id.proofs.ReadBack.{canon-is, canon-refused}
 use Rattle.entry_id.proofs.CompareLaws.{piece-feature, valid-signed}
-use Rattle.canonical_form.specs.Scan.{part, HeadAt, piecesAt}
+use Rattle.entry_id.specs.Scan.{part, piecesAt}
+use Rattle.canonical_form.specs.Heads.{HeadAt}
 use Rattle.canonical_form.specs.Spans.{pieceOk, good, pieceAt, atOf, signOf, nameOf, chunkOf, chunks, Pieces, headText, PlanAt, PlanIs}
 use Rattle.entry_id.specs.Canonical.{canonicalIn, headOf, headKey, headNumber}
-use Rattle.canonical_form.proofs.RunLaws.{part-cons, part-length, part-split, part-rest}
+use Rattle.entry_id.proofs.RunLaws.{part-cons, part-length, part-split, part-rest, pieces-here, pieces-none}
 use Rattle.wire.specs.Bytes.{overwrite}
 use Rattle.wire.proofs.OverwriteLaws.{overwrite-in, overwrite-then}
 use Rattle.canonical_form.proofs.PieceLaws.{piece-ok, name-is, colon-there}
-use Rattle.canonical_form.proofs.SpanLaws.{Good, good-parts, pieces-here, pieces-none}
+use Rattle.canonical_form.proofs.SpanLaws.{Good, good-parts}
 use Rattle.canonical_form.proofs.HeadLaws.{not-t, valid-parts}
 use Rattle.canonical_form.proofs.OrderLaws.{distinct-is}
 

@@ -9,15 +9,16 @@ use native.Mathlib.Omega.{arith}
 use lib.ListN.{length, getD, take, drop, set, length-append, length-map}
 use lib.Seq.{take-suc-set, length-take-le}
 use lib.Dec.{T, eqb, ltb, leb, eqb→eq, ltb→lt, lt→ltb, leb→le}
-use borrow.Author.Tests.{eq-eqb, lt-ltb, le-ltb}
+use borrow.Author.Tests.{eq-eqb}
 use Rattle.wire.specs.Lists.{every}
 use Rattle.entry_id.specs.Text.{splitOn}
 use Rattle.wire.proofs.Bools.{and-l, and-r, and-t, is-true, is-false, of-true}
 use Rattle.entry_id.proofs.TextLaws.{every-append, split-some}
 use Rattle.entry_id.specs.Meaning.{piece, nameByte}
-use Rattle.canonical_form.specs.Scan.{part, endsAt, piecesAt}
+use Rattle.entry_id.specs.Scan.{part, endsAt, piecesAt}
 use Rattle.canonical_form.specs.Spans.{pieceOk, Piece, good, pieceAt, atOf, signOf}
 use Rattle.entry_id.specs.Canonical.{signByte}
+use Rattle.entry_id.proofs.RunLaws.{pieces-here}
 use Rattle.canonical_form.proofs.PieceLaws.{colon-there, piece-split}
 
 pub map-append : {A B : Type 0} (f : A → B) (a b : List A) → map f (a ++ b) ≡ map f a ++ map f b
@@ -71,14 +72,6 @@ parts-good x s g =
     search and-t depth 8
 
 -- ---- the scan
-
-pub pieces-here : (x : List ℕ) (at : ℕ) → at < length x → piecesAt x at ≡ splitOn 58 (drop (suc at) x)
-unfolding piecesAt
-pieces-here x at h = rw (lt-ltb at (length x) h)
-
-pub pieces-none : (x : List ℕ) (at : ℕ) → length x ≤ at → piecesAt x at ≡ []
-unfolding piecesAt
-pieces-none x at h = rw (le-ltb at (length x) h)
 
 module _ (x : List ℕ) (stop at n : ℕ) (t : List ℕ) (inv : piecesAt x stop ≡ map (pieceAt x) (take n t) ++ piecesAt x at) (h : at < length x) where
   pub pieces-bad : every pieceOk (splitOn 58 (drop (suc at) x)) ≡ false → every pieceOk (piecesAt x stop) ≡ false

@@ -9,7 +9,7 @@ use lib.Seq.{take-add, length-take-le, drop-cons, getD-take}
 use Rattle.wire.specs.Bytes.{overwrite}
 use Rattle.wire.proofs.OverwriteLaws.{overwrite-nil, overwrite-next, overwrite-then}
 use Rattle.canonical_form.specs.Spans.{chunkOf, chunks, headText}
-use Rattle.canonical_form.specs.Scan.{part}
+use Rattle.entry_id.specs.Scan.{part}
 
 -- ---- the features one after the other
 

@@ -1,3 +1,3 @@
 pub mod Made
-pub mod Scan
+pub mod Heads
 pub mod Spans

@@ -11,7 +11,7 @@ use Rattle.entry_id.specs.Text.{splitOn, joinWith}
 use Rattle.wire.specs.Order.{insertBy, sortBy, distinctBy}
 use Rattle.entry_id.specs.Meaning.{sixFields, feature, nameByte, signed, named, valid, canonicalOf, meaning}
 use Rattle.entry_id.specs.Canonical.{signByte}
-use Rattle.canonical_form.specs.Scan.{part, endsAt, piecesAt}
+use Rattle.entry_id.specs.Scan.{part, endsAt, piecesAt}
 
 -- the piece is a feature: a name and a sign
 unfoldable pub pieceOk : List ℕ → Bool

@@ -4,7 +4,7 @@ ghost use Prim.Native.Nat.{suc, _+_, _<_, _≤_};
 ghost use mathlib.Core.Bool.{true, false};
 ghost use lib.ListN.{length, take, drop};
 ghost use lib.Dec.{T};
-ghost use Rattle.canonical_form.specs.Scan.{endsAt};
+ghost use Rattle.entry_id.specs.Scan.{endsAt};
 ghost use Rattle.canonical_form.specs.Spans.{PieceIs, PiecesIs, PlacedIs, SortedIs, nameOf, chunkOf};
 ghost use Rattle.wire.specs.Bytes.{same, before};
 ghost use Rattle.wire.specs.Order.{risingBy};

@@ -5,7 +5,7 @@ ghost use mathlib.Core.Bool.{true, false};
 ghost use Rattle.wire.specs.Lists.{any};
 ghost use Rattle.wire.specs.Bytes.{same};
 ghost use Rattle.entry_id.specs.Meaning.{kinds, namesProcessor};
-ghost use Rattle.canonical_form.specs.Scan.{NextIs, TripleIs, HeadIs};
+ghost use Rattle.canonical_form.specs.Heads.{NextIs, TripleIs, HeadIs};
 use crate::scan::byte;
 use crate::scan::ends;
 use crate::scan::field_end;

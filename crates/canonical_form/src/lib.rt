@@ -1,18 +1,16 @@
-// Entry IDs of offload bundles: the canonical form of a text, and the three tests on canonical forms.
-mod compare;
+// Entry IDs of offload bundles: the canonical form of a text.
 mod features;
 mod head;
 mod plan;
 mod scan;
 
 ghost use mathlib.Core.Path.{_≡_};
-ghost use Prim.Native.Nat.{_+_, _-_, _<_};
-ghost use mathlib.Core.Bool.{false};
+ghost use Prim.Native.Nat.{_-_};
 ghost use mathlib.Core.List.{[], _++_};
 ghost use lib.ListN.{length, drop};
 ghost use Rattle.wire.specs.Word.{word};
 ghost use Rattle.canonical_form.specs.Made.{formOf};
-ghost use Rattle.entry_id.specs.Canonical.{headNumber, canonicalIn, compatibleText, sameText, mixedText};
+ghost use Rattle.entry_id.specs.Canonical.{headNumber, canonicalIn};
 
 // A canonical form that was made: its length, and a number made from its head alone. Forms with equal heads have equal keys.
 pub struct Form {
@@ -63,60 +61,4 @@ pub fn canonical(id: &[u8], out: &mut [u8]) -> Form
     let key = head_number(&out[..stop + dashes]);
     plan::put_pieces(out, upto + dashes, id, &spans, m.n);
     Form { length, key }
-}
-
-// Whether an entry is compatible with a device, both in canonical form. The same text is the most common answer, and the quickest.
-pub fn compatible(entry: &[u8], device: &[u8]) -> bool
-    ensures { λ r. ⌜ r ≡ compatibleText (now (entry .entry)) (now (device .entry)) ⌝ }
-{
-    let n = wire_read::common_prefix(entry, device);
-    if (n == entry.len()) & (n == device.len()) {
-        return true;
-    }
-    let m = compare::meet(entry, device, n);
-    if m == 0 {
-        return false;
-    }
-    compare::all_in(entry, m - 1, device, m - 1)
-}
-
-// How two entries in canonical form stand to each other: the same meaning; equal heads and other feature names.
-pub struct Relation {
-    pub same: bool,
-    pub mixed: bool,
-}
-
-// Both at once, from one common start.
-pub fn relation_of(a: &[u8], b: &[u8]) -> Relation
-    ensures { λ r. ⌜ r ≡ record { same = sameText (now (a .entry)) (now (b .entry)); mixed = mixedText (now (a .entry)) (now (b .entry)) } ⌝ }
-{
-    let n = wire_read::common_prefix(a, b);
-    if (n == a.len()) & (n == b.len()) {
-        return Relation {
-            same: true,
-            mixed: false,
-        };
-    }
-    if compare::alike(a, b, n) {
-        return Relation {
-            same: false,
-            mixed: false,
-        };
-    }
-    let mixed = compare::meet(a, b, n) != 0;
-    Relation { same: false, mixed }
-}
-
-// Whether two entries in canonical form have the same meaning.
-pub fn same_meaning(a: &[u8], b: &[u8]) -> bool
-    ensures { λ r. ⌜ r ≡ sameText (now (a .entry)) (now (b .entry)) ⌝ }
-{
-    relation_of(a, b).same
-}
-
-// Whether two entries in canonical form have equal heads and other feature names.
-pub fn mixed(a: &[u8], b: &[u8]) -> bool
-    ensures { λ r. ⌜ r ≡ mixedText (now (a .entry)) (now (b .entry)) ⌝ }
-{
-    relation_of(a, b).mixed
 }

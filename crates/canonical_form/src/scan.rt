@@ -4,8 +4,8 @@ ghost use Prim.Native.Nat.{_<_, _≤_};
 ghost use mathlib.Core.Bool.{true};
 ghost use lib.ListN.{length, getD};
 ghost use Rattle.entry_id.specs.Meaning.{fieldByte, nameByte};
-ghost use Rattle.canonical_form.specs.Scan.{Run, inClass, endsAt};
-ghost use Rattle.entry_id.specs.Text.{notColon};
+ghost use Rattle.entry_id.specs.Scan.{Run, endsAt};
+ghost use Rattle.canonical_form.specs.Heads.{inClass};
 
 // Most bytes of an ID are small letters, and a byte below '0' ends most runs: these are asked first.
 
@@ -40,7 +40,6 @@ fn field_byte(b: u8) -> bool
 pub(crate) enum Class {
     Field,
     Name,
-    NotColon,
 }
 
 fn in_class(class: Class, b: u8) -> bool
@@ -49,7 +48,6 @@ fn in_class(class: Class, b: u8) -> bool
     match class {
         Class::Field => field_byte(b),
         Class::Name => name_byte(b),
-        Class::NotColon => b != b':',
     }
 }
 
@@ -80,14 +78,6 @@ pub(crate) fn name_end(x: &[u8], from: usize) -> usize
     ensures { λ r. ⌜ Run nameByte (now (x .entry)) from r ⌝ }
 {
     run_end(x, from, Class::Name)
-}
-
-// The first ':' from `from` on, or the end.
-pub(crate) fn colon(x: &[u8], from: usize) -> usize
-    requires { ⌜ from ≤ length (now x) ⌝ }
-    ensures { λ r. ⌜ Run notColon (now (x .entry)) from r ⌝ }
-{
-    run_end(x, from, Class::NotColon)
 }
 
 // The byte at i, or 0 past the end.

@@ -8,3 +8,4 @@ pub mod Theorems
 pub mod ExamplesProof
 pub mod RuleLaws
 pub mod KeyLaws
+pub mod RunLaws

@@ -6,3 +6,4 @@ pub mod IdRules
 pub mod Rules
 pub mod Theorems
 pub mod Examples
+pub mod Scan

@@ -1,1 +1,1 @@
-// What entry IDs mean: definitions and theorems, in specs/. The code is in `canonical_form`.
+// What entry IDs mean: definitions and theorems, in specs/. The code is in `canonical_form` and `entry_compare`.

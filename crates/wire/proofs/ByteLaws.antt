@@ -12,7 +12,7 @@ use lib.ListN.{length, getD, drop, drop-of-length-le}
 use lib.Seq.{drop-cons}
 use borrow.Author.Tests.{eq-eqb, ne-eqb, eqb-true, eqb-false, le-ltb}
 use Rattle.wire.specs.Bytes.{same, before, common}
-use Rattle.wire.proofs.Bools.{and-l, and-r, and-t, or-t, or-l, or-r, of-true, is-true, is-false, byBool, clash}
+use Rattle.wire.proofs.Bools.{and-l, and-r, and-t, or-t, or-l, or-r, of-true, is-true, is-false, byBool, clash, cond-ind}
 
 -- ---- same: equality
 
@@ -132,6 +132,19 @@ unfolding common
 common-stop a b i ha hb h n =
     let z : common (drop i a) (drop i b) ≡ 0 = rw (drop-cons a i 0 ha, drop-cons b i 0 hb, ne-eqb _ _ n) in
     omega arith
+
+-- it is within both
+pub common-le : (a b : List ℕ) → common a b ≤ length a
+unfolding common
+common-le [] b = omega arith
+common-le (x ∷ a) [] = omega arith
+common-le (x ∷ a) (y ∷ b) = cond-ind (λ r. r ≤ suc (length a)) (eqb x y) (suc (common a b)) 0 (omega (arith, common-le a b)) (omega arith)
+
+pub common-within : (a b : List ℕ) → common a b ≤ length b
+unfolding common
+common-within [] b = omega arith
+common-within (x ∷ a) [] = omega arith
+common-within (x ∷ a) (y ∷ b) = cond-ind (λ r. r ≤ suc (length b)) (eqb x y) (suc (common a b)) 0 (omega (arith, common-within a b)) (omega arith)
 
 common-nil-r : (a : List ℕ) → common a [] ≡ 0
 unfolding common

@@ -9,7 +9,7 @@ use Rattle.wire.specs.Stop.{earlier}
 use Rattle.wire.proofs.Bools.{clash}
 use Rattle.wire.proofs.FirstLaws.{any-some, any-none}
 use Rattle.entry_id.specs.Rules.{idRules}
-use Rattle.canonical_form.specs.declared.Relation.{Relation}
+use Rattle.entry_compare.specs.declared.Relation.{Relation}
 use Rattle.bundle_reader.specs.Examined.{text}
 use Rattle.bundle_reader.specs.Slots.{relation}
 use Rattle.bundle_reader.proofs.SlotLaws.{any-more}

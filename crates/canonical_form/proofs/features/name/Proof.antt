@@ -1,7 +1,7 @@
 -- `canonical_form::name` meets its contract. Assumes nothing.
 use native.Mathlib.Numerals.{add-one}
 use borrow.Author.Tests.{lt-ltb, le-ltb}
-use Rattle.canonical_form.specs.Scan.{part}
+use Rattle.entry_id.specs.Scan.{part}
 use Rattle.canonical_form.specs.Spans.{nameOf, atOf, signOf}
 use borrow.Author.Needs.{needs}
 use Rattle.canonical_form.proofs.features.name.Statement.{statement}

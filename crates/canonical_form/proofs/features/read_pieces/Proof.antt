@@ -8,9 +8,10 @@ use native.Mathlib.Numerals.{add-one}
 use lib.ListN.{length, take, length-set}
 use lib.Dec.{T, eqb, leb}
 use Rattle.wire.specs.Lists.{every}
-use Rattle.canonical_form.specs.Scan.{endsAt, piecesAt}
+use Rattle.entry_id.specs.Scan.{endsAt, piecesAt}
 use Rattle.canonical_form.specs.Spans.{pieceOk, pieceAt, good, Piece}
-use Rattle.canonical_form.proofs.SpanLaws.{pieces-bad, pieces-many, pieces-more, good-more, pieces-none, neither, either, both-false}
+use Rattle.canonical_form.proofs.SpanLaws.{pieces-bad, pieces-many, pieces-more, good-more, neither, either, both-false}
+use Rattle.entry_id.proofs.RunLaws.{pieces-none}
 use borrow.Author.Tests.{eqb-true, eqb-false}
 use native.Mathlib.Omega.{arith}
 use borrow.Author.Needs.{needs}

@@ -8,7 +8,7 @@ use borrow.Author.Tests.{not-true, not-false}
 use Rattle.wire.specs.Lists.{every}
 use Rattle.entry_id.specs.Text.{splitOn}
 use Rattle.wire.proofs.Bools.{is-false, of-true}
-use Rattle.canonical_form.specs.Scan.{endsAt}
+use Rattle.entry_id.specs.Scan.{endsAt}
 use Rattle.canonical_form.specs.Spans.{pieceOk}
 use Rattle.entry_id.specs.Canonical.{signByte}
 use Rattle.canonical_form.proofs.PieceLaws.{piece-good, sign-inside}

@@ -1,6 +1,6 @@
 -- `head::is_proc` meets its contract. Assumes nothing.
 use mathlib.Core.Path.{sym}
-use Rattle.canonical_form.proofs.RunLaws.{short-proc}
+use Rattle.entry_id.proofs.RunLaws.{short-proc}
 use Rattle.canonical_form.proofs.ClassLaws.{proc-g, proc-s}
 use native.Mathlib.Omega.{arith}
 use borrow.Author.Needs.{needs}

@@ -1,8 +1,8 @@
 -- `canonical_form::next` meets its contract. Assumes nothing.
 use Prim.Native.Nat.{_+_, suc}
 use Rattle.entry_id.specs.Meaning.{fieldByte}
-use Rattle.canonical_form.specs.Scan.{Run}
-use Rattle.canonical_form.proofs.RunLaws.{byte-inside}
+use Rattle.entry_id.specs.Scan.{Run}
+use Rattle.entry_id.proofs.RunLaws.{byte-inside}
 use Rattle.canonical_form.proofs.HeadLaws.{next-no-dash, next-empty}
 use mathlib.Core.Path.{_≡_, sym, _∙_}
 use native.Mathlib.Numerals.{add-one}

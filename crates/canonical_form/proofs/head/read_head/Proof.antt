@@ -5,8 +5,9 @@ use native.Mathlib.Numerals.{add-one}
 use lib.ListN.{getD}
 use lib.Dec.{ltb}
 use Rattle.entry_id.specs.Meaning.{fieldByte, namesProcessor}
-use Rattle.canonical_form.specs.Scan.{part, Run, HeadAt}
-use Rattle.canonical_form.proofs.RunLaws.{byte-inside}
+use Rattle.entry_id.specs.Scan.{part, Run}
+use Rattle.canonical_form.specs.Heads.{HeadAt}
+use Rattle.entry_id.proofs.RunLaws.{byte-inside}
 use Rattle.canonical_form.proofs.HeadForms.{head-yes, head-no, four, four-bad, five-proc, five-env, five-bad, six, six-bad}
 use native.Mathlib.Omega.{arith}
 use borrow.Author.Needs.{needs}

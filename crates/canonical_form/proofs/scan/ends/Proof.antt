@@ -1,5 +1,5 @@
 -- `canonical_form::ends` meets its contract. Assumes nothing.
-use Rattle.canonical_form.specs.Scan.{endsAt}
+use Rattle.entry_id.specs.Scan.{endsAt}
 use borrow.Author.Tests.{lt-ltb, le-ltb}
 use borrow.Author.Needs.{needs}
 use Rattle.canonical_form.proofs.scan.ends.Statement.{statement}

@@ -1,4 +1,3 @@
-use Rattle.entry_id.specs.Text.{notColon}
 use borrow.Author.Needs.{needs}
 use Rattle.canonical_form.proofs.scan.in_class.Statement.{statement}
 use Rattle.canonical_form.proofs.scan.in_class.Tie as tie
@@ -15,18 +14,11 @@ enum-told-2 c = search needs
 name-byte-requires : tie.Need-name-byte-requires
 name-byte-requires c κs = search needs
 
-enum-told-3 : tie.Need-enum-told-3
-enum-told-3 c = search needs
-
 returns : tie.Need-returns
 returns c = rw (c .before .enum-told .given .1) (c .field-byte .ensures)
 
 returns-2 : tie.Need-returns-2
 returns-2 c = rw (c .before .enum-told2 .given .1) (c .name-byte .ensures)
-
-returns-3 : tie.Need-returns-3
-unfolding notColon
-returns-3 c = rw (c .enum-told3 .given .1)
 
 pub in-class-spec : {M : Type 1} → statement M
 in-class-spec =
@@ -36,7 +28,5 @@ in-class-spec =
     field-byte-requires
     enum-told-2
     name-byte-requires
-    enum-told-3
     returns
-    returns-2
-    returns-3)
+    returns-2)

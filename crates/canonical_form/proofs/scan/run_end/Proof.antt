@@ -5,8 +5,9 @@ use lib.Dec.{T}
 use borrow.Author.Tests.{not-true, not-false}
 use mathlib.Core.Path.{sym, _∙_}
 use Rattle.wire.specs.Lists.{every}
-use Rattle.canonical_form.specs.Scan.{part, inClass}
-use Rattle.canonical_form.proofs.RunLaws.{run-none, run-more}
+use Rattle.entry_id.specs.Scan.{part}
+use Rattle.canonical_form.specs.Heads.{inClass}
+use Rattle.entry_id.proofs.RunLaws.{run-none, run-more}
 use native.Mathlib.Omega.{arith}
 use borrow.Author.Needs.{needs}
 use Rattle.canonical_form.proofs.scan.run_end.Statement.{statement}

@@ -6,9 +6,9 @@ use mathlib.Core.Bool.{not}
 use borrow.Author.Tests.{eqb-true, eq-eqb, ne-eqb}
 use Rattle.wire.proofs.Bools.{and-both}
 use Rattle.entry_id.specs.Canonical.{sameText}
-use Rattle.canonical_form.proofs.TestLaws.{mixed-alike, mixed-meet, whole-same, whole-alike}
-use Rattle.canonical_form.proofs.relation_of.Statement.{statement}
-use Rattle.canonical_form.proofs.relation_of.Tie as tie
+use Rattle.entry_compare.proofs.TestLaws.{mixed-alike, mixed-meet, whole-same, whole-alike}
+use Rattle.entry_compare.proofs.relation_of.Statement.{statement}
+use Rattle.entry_compare.proofs.relation_of.Tie as tie
 
 common-prefix-requires : tie.Need-common-prefix-requires
 common-prefix-requires c κs = search needs

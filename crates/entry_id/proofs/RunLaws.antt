@@ -8,14 +8,15 @@ use native.Mathlib.Omega.{arith}
 use lib.ListN.{length, getD, take, drop, length-take, length-drop, take-append-drop, List·getD-eq-default}
 use lib.Seq.{take-suc, take-all, drop-cons, drop-drop, getD-drop, length-take-le, take-add}
 use lib.Dec.{T, ltb}
-use borrow.Author.Tests.{ltb-true, ltb-false}
+use borrow.Author.Tests.{ltb-true, ltb-false, lt-ltb, le-ltb}
 use Rattle.wire.specs.Lists.{every}
 use Rattle.wire.specs.Bytes.{empty, bytes}
 use Rattle.entry_id.specs.Meaning.{namesProcessor}
+use Rattle.entry_id.specs.Text.{splitOn}
 use Rattle.wire.proofs.Bools.{and-t, of-true, cases}
 use Rattle.entry_id.proofs.TextLaws.{every-append}
 use Rattle.wire.proofs.ByteLaws.{same-length}
-use Rattle.canonical_form.specs.Scan.{part}
+use Rattle.entry_id.specs.Scan.{part, piecesAt}
 
 -- ---- parts
 
@@ -104,3 +105,13 @@ part-cons x a r b e k h =
     let n = r - suc a in
     let f : r - a ≡ suc n = omega arith in
     ap (λ m. take m (drop a x)) f ∙ ap (λ l. take (suc n) l) (drop-cons x a 0 k) ∙ ap (λ y. y ∷ take n (drop (suc a) x)) e
+
+-- ---- pieces
+
+pub pieces-here : (x : List ℕ) (at : ℕ) → at < length x → piecesAt x at ≡ splitOn 58 (drop (suc at) x)
+unfolding piecesAt
+pieces-here x at h = rw (lt-ltb at (length x) h)
+
+pub pieces-none : (x : List ℕ) (at : ℕ) → length x ≤ at → piecesAt x at ≡ []
+unfolding piecesAt
+pieces-none x at h = rw (le-ltb at (length x) h)

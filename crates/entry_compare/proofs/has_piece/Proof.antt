@@ -1,17 +1,17 @@
--- `canonical_form::has_piece` meets its contract. The loop's invariant: the pieces that are left decide. Assumes nothing.
+-- `entry_compare::has_piece` meets its contract. The loop's invariant: the pieces that are left decide. Assumes nothing.
 use Prim.Native.Nat.{suc, _+_, _-_}
 use mathlib.Core.Path.{_≡_, refl, sym, _∙_}
 use native.Mathlib.Numerals.{add-one}
 use lib.ListN.{length}
 use Rattle.wire.specs.Lists.{any}
 use Rattle.wire.specs.Bytes.{same}
-use Rattle.canonical_form.specs.Scan.{part, piecesAt, Run}
+use Rattle.entry_id.specs.Scan.{part, piecesAt, Run}
 use Rattle.entry_id.specs.Text.{notColon}
-use Rattle.canonical_form.proofs.TestLaws.{any-yes, any-no, any-end}
+use Rattle.entry_compare.proofs.TestLaws.{any-yes, any-no, any-end}
 use native.Mathlib.Omega.{arith}
 use borrow.Author.Needs.{needs}
-use Rattle.canonical_form.proofs.compare.has_piece.Statement.{statement}
-use Rattle.canonical_form.proofs.compare.has_piece.Tie as tie
+use Rattle.entry_compare.proofs.has_piece.Statement.{statement}
+use Rattle.entry_compare.proofs.has_piece.Tie as tie
 
 abbrev Inv-loop : tie.InvT-loop
 Inv-loop x stop p at₀ at = any (same p) (piecesAt x stop) ≡ any (same p) (piecesAt x at)

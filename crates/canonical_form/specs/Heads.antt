@@ -1,41 +1,21 @@
--- What scans of one text find, in terms of its positions. Definitions only. Assumes nothing.
-use Prim.Native.Nat.{ℕ, zero, suc, _+_, _-_, _≤_, _<_}
+-- What the scans of an ID find of its head, in terms of its positions: for private functions. Definitions only. Assumes nothing.
+use Prim.Native.Nat.{ℕ, zero, suc, _+_, _≤_, _<_}
 use mathlib.Core.Path.{_≡_}
-use mathlib.Core.Bool.{Bool, true, false, not, _&&_, cond}
+use mathlib.Core.Bool.{Bool, true, false, not, _&&_}
 use mathlib.Core.List.{List, [], _∷_, _++_}
 use lib.ListN.{length, getD, take, drop, replicate}
-use lib.Dec.{T, ltb, eqb}
+use lib.Dec.{T}
 use Rattle.wire.specs.Lists.{any, every}
-use Rattle.entry_id.specs.Text.{notColon, splitOn, joinWith}
+use Rattle.entry_id.specs.Text.{joinWith}
+use Rattle.entry_id.specs.Scan.{part, Run, endsAt, piecesAt}
 use Rattle.wire.specs.Bytes.{empty, same}
 use Rattle.entry_id.specs.Meaning.{fieldsOf, piecesOf, meaning, sixFields, nameByte, fieldByte, kinds, valid}
 use Rattle.canonical_form.specs.declared.scan.Class.{Class}
-use Rattle.canonical_form.specs.declared.scan.Class.the-variants.{Field, Name, NotColon}
-use Rattle.entry_id.specs.Canonical.{headOf}
+use Rattle.canonical_form.specs.declared.scan.Class.the-variants.{Field, Name}
 
 abbrev pub inClass : Class → ℕ → Bool
 inClass Field = fieldByte
 inClass Name = nameByte
-inClass NotColon = notColon
-
--- the bytes from a up to e
-unfoldable pub part : {A : Type 0} → List A → ℕ → ℕ → List A
-part x a e = take (e - a) (drop a x)
-
--- from a up to r every byte passes, and the next one, if there is one, does not
-pub record Run (p : ℕ → Bool) (x : List ℕ) (a r : ℕ) : Type 0 where
-  pub low : a ≤ r
-  pub high : r ≤ length x
-  pub passed : T (every p (part x a r))
-  pub stop : r < length x → p (getD x r 0) ≡ false
-
--- the head of the text ends at e: the text does, or a ':' stands there
-unfoldable pub endsAt : List ℕ → ℕ → Bool
-endsAt x e = cond (ltb e (length x)) (eqb (getD x e 0) 58) true
-
--- the pieces of a text whose head ends at e
-unfoldable pub piecesAt : List ℕ → ℕ → List (List ℕ)
-piecesAt x e = cond (ltb e (length x)) (splitOn 58 (drop (suc e) x)) []
 
 -- the first k fields are there and not empty, and all are made of field bytes
 unfoldable pub filled : ℕ → List (List ℕ) → Bool
@@ -95,10 +75,3 @@ pub record HeadAt (x : List ℕ) (at dashes stop : ℕ) (proc : Bool) : Type 0 w
 pub record HeadIs (x : List ℕ) (ok : Bool) (at dashes stop : ℕ) (proc : Bool) : Type 0 where
   pub found : ok ≡ true → HeadAt x at dashes stop proc
   pub refused : ok ≡ false → valid x ≡ false
-
--- ---- two texts
-
--- two heads are the same and end before place r, counted from 1; or they differ and r is 0
-pub record MeetIs (a b : List ℕ) (r : ℕ) : Type 0 where
-  pub found : 0 < r → (same (headOf a) (headOf b) ≡ true) × (Run notColon a 0 (r - 1) × Run notColon b 0 (r - 1))
-  pub differ : r ≡ 0 → same (headOf a) (headOf b) ≡ false

@@ -1,8 +1,8 @@
 use borrow.Author.Needs.{needs}
 use mathlib.Core.Path.{ap}
-use Rattle.canonical_form.specs.declared.Relation.{Relation}
-use Rattle.canonical_form.proofs.mixed.Statement.{statement}
-use Rattle.canonical_form.proofs.mixed.Tie as tie
+use Rattle.entry_compare.specs.declared.Relation.{Relation}
+use Rattle.entry_compare.proofs.mixed.Statement.{statement}
+use Rattle.entry_compare.proofs.mixed.Tie as tie
 
 relation-of-requires : tie.Need-relation-of-requires
 relation-of-requires c κs = search needs

@@ -7,11 +7,12 @@ use lib.Dec.{eqb}
 use lib.ListN.{length, getD, drop, length-drop}
 use borrow.Author.Tests.{not-true, not-false}
 use Rattle.wire.specs.Bytes.{common}
+use Rattle.wire.proofs.ByteLaws.{common-le}
 use Rattle.wire.specs.Lists.{agree}
 use Rattle.entry_id.specs.Canonical.{sameButSign}
-use Rattle.canonical_form.proofs.TestLaws.{rest-is, common-le, alike-lengths, alike-start, start-apart, alike-other, alike-next, next-apart, alike-end}
-use Rattle.canonical_form.proofs.compare.alike.Statement.{statement}
-use Rattle.canonical_form.proofs.compare.alike.Tie as tie
+use Rattle.entry_compare.proofs.TestLaws.{rest-is, alike-lengths, alike-start, start-apart, alike-other, alike-next, next-apart, alike-end}
+use Rattle.entry_compare.proofs.alike.Statement.{statement}
+use Rattle.entry_compare.proofs.alike.Tie as tie
 
 abbrev Inv-loop : tie.InvT-loop
 Inv-loop a b n at₀ at = (at ≤ length a) × (length a ≡ length b) × (agree sameButSign a b ≡ agree sameButSign (drop at a) (drop at b)) × (at < length a → eqb (getD a at 0) (getD b at 0) ≡ false)

@@ -1,9 +1,9 @@
 use borrow.Author.Needs.{needs}
 use native.Mathlib.Omega.{arith}
 use mathlib.Core.Path.{sym, _∙_}
-use Rattle.canonical_form.proofs.TestLaws.{compatible-self, compatible-no, compatible-yes, whole-same}
-use Rattle.canonical_form.proofs.compatible.Statement.{statement}
-use Rattle.canonical_form.proofs.compatible.Tie as tie
+use Rattle.entry_compare.proofs.TestLaws.{compatible-self, compatible-no, compatible-yes, whole-same}
+use Rattle.entry_compare.proofs.compatible.Statement.{statement}
+use Rattle.entry_compare.proofs.compatible.Tie as tie
 
 common-prefix-requires : tie.Need-common-prefix-requires
 common-prefix-requires c κs = search needs

@@ -1,4 +1,4 @@
--- `canonical_form::all_in` meets its contract. The loop's invariant: the pieces that are left decide. Assumes nothing.
+-- `entry_compare::all_in` meets its contract. The loop's invariant: the pieces that are left decide. Assumes nothing.
 use Prim.Native.Nat.{suc, _+_, _-_}
 use mathlib.Core.Path.{_≡_, refl, sym, _∙_}
 use native.Mathlib.Numerals.{add-one}
@@ -6,14 +6,14 @@ use borrow.Author.Tests.{not-true, not-false}
 use lib.ListN.{length}
 use Rattle.wire.specs.Lists.{any}
 use Rattle.wire.specs.Bytes.{same}
-use Rattle.canonical_form.specs.Scan.{part, piecesAt, Run}
+use Rattle.entry_id.specs.Scan.{part, piecesAt, Run}
 use Rattle.entry_id.specs.Text.{notColon}
 use Rattle.entry_id.specs.Canonical.{within}
-use Rattle.canonical_form.proofs.TestLaws.{within-yes, within-no, within-end}
+use Rattle.entry_compare.proofs.TestLaws.{within-yes, within-no, within-end}
 use native.Mathlib.Omega.{arith}
 use borrow.Author.Needs.{needs}
-use Rattle.canonical_form.proofs.compare.all_in.Statement.{statement}
-use Rattle.canonical_form.proofs.compare.all_in.Tie as tie
+use Rattle.entry_compare.proofs.all_in.Statement.{statement}
+use Rattle.entry_compare.proofs.all_in.Tie as tie
 
 abbrev Inv-loop : tie.InvT-loop
 Inv-loop a s b t at₀ at = within (piecesAt b t) (piecesAt a s) ≡ within (piecesAt b t) (piecesAt a at)

@@ -7,20 +7,19 @@ use mathlib.Core.List.{append-nil, List, [], _∷_, _++_}
 use lib.ListN.{length, getD, take, drop, drop-of-length-le, length-drop}
 use lib.Seq.{take-all, drop-cons, drop-drop, getD-drop, getD-take, length-take-le}
 use lib.Dec.{T, ltb, eqb}
-use borrow.Author.Tests.{eqb-true, eqb-false, eq-eqb, ne-eqb, lt-ltb, ltb-true, ltb-false, not-true, not-false}
+use borrow.Author.Tests.{eqb-true, eqb-false, eq-eqb, ne-eqb, lt-ltb, le-ltb, ltb-true, ltb-false, not-true, not-false}
 use Rattle.wire.specs.Lists.{agree, any, every}
 use Rattle.entry_id.specs.Text.{splitOn, onFirst, notColon}
 use Rattle.wire.specs.Bytes.{same, common}
 use Rattle.entry_id.proofs.TextLaws.{split-last, split-skip, split-some, every-imp}
 use Rattle.wire.proofs.Bools.{cases, byBool, clash, and-both, or-true, and-false, of-true, is-true, and-l, and-r, and-t, or-l, or-r}
-use Rattle.wire.proofs.ByteLaws.{same-refl, same-eq, same-length, same-common}
+use Rattle.wire.proofs.ByteLaws.{same-refl, same-eq, same-length, same-common, common-within}
 use Rattle.entry_id.specs.Meaning.{piecesOf}
 use Rattle.entry_id.proofs.ReadBack.{no-colon}
-use Rattle.canonical_form.specs.Scan.{part, Run, piecesAt, endsAt, MeetIs}
+use Rattle.entry_id.specs.Scan.{part, Run, piecesAt, endsAt}
+use Rattle.entry_compare.specs.Meet.{MeetIs}
 use Rattle.entry_id.specs.Canonical.{headOf, within, signByte, sameButSign, compatibleText, mixedText}
-use Rattle.canonical_form.proofs.RunLaws.{part-drop, part-start}
-use Rattle.canonical_form.proofs.OrderLaws.{common-within}
-use Rattle.canonical_form.proofs.SpanLaws.{pieces-here, pieces-none}
+use Rattle.entry_id.proofs.RunLaws.{part-drop, part-start, pieces-here, pieces-none}
 use native.Mathlib.Omega.{arith}
 use native.Mathlib.Numerals.{add-one}
 
@@ -75,17 +74,7 @@ pub within-end : (x : List ℕ) (at : ℕ) (qs : List (List ℕ)) → length x �
 unfolding within every
 within-end x at qs k = rw (pieces-none x at k)
 
--- ---- whole texts
-
 -- ---- common starts
-
-pub common-le : (s t : List ℕ) → common s t ≤ length s
-unfolding common
-common-le [] t = omega arith
-common-le (x ∷ s) [] = omega arith
-common-le (x ∷ s) (y ∷ t) = byBool (eqb x y)
-    (λ e. let z : common (x ∷ s) (y ∷ t) ≡ suc (common s t) = rw e in omega (arith, common-le s t))
-    (λ e. let z : common (x ∷ s) (y ∷ t) ≡ 0 = rw e in omega arith)
 
 -- behind it the bytes differ
 common-apart : (s t : List ℕ) → common s t < length s → common s t < length t → eqb (getD s (common s t) 0) (getD t (common s t) 0) ≡ false
@@ -205,7 +194,7 @@ module _ (a b : List ℕ) (e n : ℕ) (r : Run notColon a 0 e) (c : n ≡ common
       ∙ meet-step a b k (head-goes a e r k (omega arith)) (omega (arith, c, common-within a b)) (common-get a b k (omega (arith, c)))
       ∙ ap (λ z. same (headOf (drop z a)) (headOf (drop z b))) (add-one k)
 
-  pub meet-apart : n < e → same (headOf a) (headOf b) ≡ false
+  meet-apart : n < e → same (headOf a) (headOf b) ≡ false
   meet-apart h =
       let g = head-goes a e r n h in
       heads-from n (omega arith) (omega arith) ∙ (elim (cases (ltb n (length b))) [
@@ -216,16 +205,35 @@ module _ (a b : List ℕ) (e n : ℕ) (r : Run notColon a 0 e) (c : n ≡ common
       ])
 
   module _ (h : e ≤ n) where
-    pub meet-at : same (headOf a) (headOf b) ≡ endsAt b e
+    meet-at : same (headOf a) (headOf b) ≡ endsAt b e
     meet-at = heads-from e (omega arith) h ∙ meet-end a b e (head-stops a e r)
 
-    pub meet-run : endsAt b e ≡ true → Run notColon b 0 e
+    meet-run : endsAt b e ≡ true → Run notColon b 0 e
     meet-run t = record {
       low = omega arith;
       high = omega (arith, c, common-within a b);
       passed = subst (λ z. T (every notColon z)) (part-start a e ∙ common-take a b e (omega (arith, c)) ∙ sym (part-start b e)) (r .passed);
       stop = stop-here b e t;
     }
+
+    pub meet-found : endsAt b e ≡ true → MeetIs a b (e + 1)
+    meet-found t =
+        let k : e ≡ e + 1 - 1 = omega arith in
+        record { found = λ z. (meet-at ∙ t, (subst (Run notColon a 0) k r, subst (Run notColon b 0) k (meet-run t))); differ = λ z. absurd (omega arith) }
+
+    pub meet-other : endsAt b e ≡ false → MeetIs a b 0
+    meet-other t = record { found = λ z. absurd (omega arith); differ = λ z. meet-at ∙ t }
+
+  pub meet-none : n < e → MeetIs a b 0
+  meet-none h = record { found = λ z. absurd (omega arith); differ = λ z. meet-apart h }
+
+pub ends-inside : (x : List ℕ) (e : ℕ) (v : Bool) → e < length x → eqb (getD x e 0) 58 ≡ v → endsAt x e ≡ v
+unfolding endsAt
+ends-inside x e v h t = rw (lt-ltb e (length x) h) t
+
+pub ends-past : (x : List ℕ) (e : ℕ) → length x ≤ e → endsAt x e ≡ true
+unfolding endsAt
+ends-past x e h = rw (le-ltb e (length x) h)
 
 module _ (a b : List ℕ) (r : ℕ) (m : MeetIs a b r) where
   pub compatible-yes : 0 < r → within (piecesAt b (r - 1)) (piecesAt a (r - 1)) ≡ compatibleText a b

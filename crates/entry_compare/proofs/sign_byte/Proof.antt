@@ -1,7 +1,7 @@
 use mathlib.Core.Path.{refl}
 use Rattle.entry_id.specs.Canonical.{signByte}
-use Rattle.canonical_form.proofs.compare.sign_byte.Statement.{statement}
-use Rattle.canonical_form.proofs.compare.sign_byte.Tie as tie
+use Rattle.entry_compare.proofs.sign_byte.Statement.{statement}
+use Rattle.entry_compare.proofs.sign_byte.Tie as tie
 
 returns : tie.Need-returns
 unfolding signByte

@@ -1,0 +1,155 @@
+// The tests on two canonical forms: compatible, the same meaning, mixed. Each goes up to the first difference.
+ghost use mathlib.Core.Path.{_≡_};
+ghost use Prim.Native.Nat.{_+_, _≤_};
+ghost use mathlib.Core.Bool.{true, false};
+ghost use lib.ListN.{length};
+ghost use Rattle.wire.specs.Lists.{any, agree};
+ghost use Rattle.wire.specs.Bytes.{same, common};
+ghost use Rattle.entry_id.specs.Text.{notColon};
+ghost use Rattle.entry_id.specs.Scan.{Run, piecesAt};
+ghost use Rattle.entry_id.specs.Canonical.{within, signByte, sameButSign, compatibleText, sameText, mixedText};
+ghost use Rattle.entry_compare.specs.Meet.{MeetIs};
+
+// The first ':' from `from` on, or the end.
+fn colon(x: &[u8], from: usize) -> usize
+    requires { ⌜ from ≤ length (now x) ⌝ }
+    ensures { λ r. ⌜ Run notColon (now (x .entry)) from r ⌝ }
+{
+    let mut i = from;
+    while i < x.len() {
+        if x[i] == b':' {
+            return i;
+        }
+        i += 1;
+    }
+    i
+}
+
+// Whether p is among the pieces of x whose head ends at stop.
+fn has_piece(x: &[u8], stop: usize, p: &[u8]) -> bool
+    ensures { λ r. ⌜ r ≡ any (same (now (p .entry))) (piecesAt (now (x .entry)) stop) ⌝ }
+{
+    let mut at = stop;
+    while at < x.len() {
+        let e = colon(x, at + 1);
+        if wire_read::same_bytes(p, &x[at + 1..e]) {
+            return true;
+        }
+        at = e;
+    }
+    false
+}
+
+// Whether each piece of a is among the pieces of b.
+fn all_in(a: &[u8], s: usize, b: &[u8], t: usize) -> bool
+    ensures { λ r. ⌜ r ≡ within (piecesAt (now (b .entry)) t) (piecesAt (now (a .entry)) s) ⌝ }
+{
+    let mut at = s;
+    while at < a.len() {
+        let e = colon(a, at + 1);
+        if !has_piece(b, t, &a[at + 1..e]) {
+            return false;
+        }
+        at = e;
+    }
+    true
+}
+
+fn sign_byte(b: u8) -> bool
+    ensures { λ r. ⌜ r ≡ signByte b ⌝ }
+{
+    (b == b'+') | (b == b'-')
+}
+
+// Whether a and b, whose common start has n bytes, are the same but for signs. It stops at the first other difference.
+fn alike(a: &[u8], b: &[u8], n: usize) -> bool
+    requires { ⌜ n ≡ common (now a) (now b) ⌝ }
+    ensures { λ r. ⌜ r ≡ agree sameButSign (now (a .entry)) (now (b .entry)) ⌝ }
+{
+    if a.len() != b.len() {
+        return false;
+    }
+    let mut at = n;
+    while at < a.len() {
+        if !(sign_byte(a[at]) & sign_byte(b[at])) {
+            return false;
+        }
+        let i = at + 1;
+        at = i + wire_read::common_prefix(&a[i..], &b[i..]);
+    }
+    true
+}
+
+// Where the heads of a and b end, counted from 1, if they are the same; else 0. The common start of a and b has n bytes.
+fn meet(a: &[u8], b: &[u8], n: usize) -> usize
+    requires { ⌜ n ≡ common (now a) (now b) ⌝ }
+    ensures { λ r. ⌜ MeetIs (now (a .entry)) (now (b .entry)) r ⌝ }
+{
+    let e = colon(a, 0);
+    if n < e {
+        return 0;
+    }
+    if e < b.len() {
+        if b[e] == b':' {
+            return e + 1;
+        }
+        return 0;
+    }
+    e + 1
+}
+
+// Whether an entry is compatible with a device, both in canonical form. The same text is the most common answer, and the quickest.
+pub fn compatible(entry: &[u8], device: &[u8]) -> bool
+    ensures { λ r. ⌜ r ≡ compatibleText (now (entry .entry)) (now (device .entry)) ⌝ }
+{
+    let n = wire_read::common_prefix(entry, device);
+    if (n == entry.len()) & (n == device.len()) {
+        return true;
+    }
+    let m = meet(entry, device, n);
+    if m == 0 {
+        return false;
+    }
+    all_in(entry, m - 1, device, m - 1)
+}
+
+// How two entries in canonical form stand to each other: the same meaning; equal heads and other feature names.
+pub struct Relation {
+    pub same: bool,
+    pub mixed: bool,
+}
+
+// Both at once, from one common start.
+pub fn relation_of(a: &[u8], b: &[u8]) -> Relation
+    ensures { λ r. ⌜ r ≡ record { same = sameText (now (a .entry)) (now (b .entry)); mixed = mixedText (now (a .entry)) (now (b .entry)) } ⌝ }
+{
+    let n = wire_read::common_prefix(a, b);
+    if (n == a.len()) & (n == b.len()) {
+        return Relation {
+            same: true,
+            mixed: false,
+        };
+    }
+    if alike(a, b, n) {
+        return Relation {
+            same: false,
+            mixed: false,
+        };
+    }
+    let mixed = meet(a, b, n) != 0;
+    Relation { same: false, mixed }
+}
+
+// Whether two entries in canonical form have the same meaning.
+pub fn same_meaning(a: &[u8], b: &[u8]) -> bool
+    ensures { λ r. ⌜ r ≡ sameText (now (a .entry)) (now (b .entry)) ⌝ }
+{
+    relation_of(a, b).same
+}
+
+// Whether two entries in canonical form have equal heads and other feature names.
+pub fn mixed(a: &[u8], b: &[u8]) -> bool
+    ensures { λ r. ⌜ r ≡ mixedText (now (a .entry)) (now (b .entry)) ⌝ }
+{
+    relation_of(a, b).mixed
+}
