@@ -13,26 +13,16 @@ TOOL := target/offload
 PREFIX := /usr/local
 LLVM := llvm
 
-.PHONY: test demo prove library harness calls stack compare second-test tool tool-test example install install-test damage bench compiler tools
+.PHONY: test proved-test demo prove library harness calls stack compare second-test tool tool-test example install install-test damage bench compiler tools
 
-# The proofs and the must-fail edits first, then the library against the second program. `rt ci` removes target/, so its last line is kept outside.
-# Ten jobs keep two processors busy, since `rt ci` waits for the last crate of a level and the last edit of a group. The second program's own tests need no
-# library and run beside the proofs; the archives are built beside the edits, when the first of these has been refused and every crate is proved.
+# The gate. Its parts run side by side: tests/gate.sh.
 test: tools
 	rt fmt --check
-	kept=$$(mktemp -d); trap 'rm -rf "$$kept"' EXIT; \
-	nice $(MAKE) --no-print-directory second-test >"$$kept/second" 2>&1 & \
-	RT_JOBS=10 rt ci | tee "$$kept/verdict" | { \
-	    while IFS= read -r line; do \
-	        printf '%s\n' "$$line"; \
-	        if [[ $$line == 'rt: must-fail '* && ! -e $$kept/archives ]]; then $(MAKE) --no-print-directory harness >"$$kept/archives" 2>&1 & fi; \
-	    done; \
-	    wait; \
-	}; \
-	wait $$! || { cat "$$kept/second"; exit 1; }; \
-	cat "$$kept/second" "$$kept/archives"; \
-	$(MAKE) --no-print-directory -j2 -O -o library -o harness calls stack compare tool-test example install-test damage LLVM=; \
-	tail -n 1 "$$kept/verdict"
+	tests/gate.sh
+
+# What the gate runs on the proved library.
+proved-test: harness
+	$(MAKE) --no-print-directory -j2 -O -o library -o harness calls stack compare tool-test example install-test damage LLVM=
 
 # What the tool does with a real bundle.
 demo: tool
@@ -106,7 +96,7 @@ damage: tool
 	mkdir -p target/damage
 	$(POSIX) -o target/make-damage tests/damage.c
 	target/make-damage 2000 target/damage samples/bundles/* samples/binaries/*
-	tests/damage.sh $(TOOL) target/damage $(LLVM)
+	timeout 1800 tests/damage.sh $(TOOL) target/damage $(LLVM)
 
 # The library's speed beside that of the second program, plain C, memcpy, LLVM's tools and, with llvm-19-dev, LLVM's library.
 bench: tool

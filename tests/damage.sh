@@ -14,15 +14,16 @@ ulimit -c 0
 ulimit -v $((8 << 20)) # 8 GiB
 
 # ends NAME MOST WORD..: how a program ends on each file, which stands for the word FILE. A status above MOST is told.
+# A program that takes 10 seconds of processor time hangs (SIGXCPU); one that only waits is ended by the caller's limit.
 ends() {
   local name=$1 most=$2 file status answered=0 refused=0 crashed=0 hung=0
   shift 2
   for file in "${files[@]}"; do
-    timeout 10 "${@//FILE/$file}" >"$out/text" 2>&1 </dev/null
+    (ulimit -St 10 && exec "${@//FILE/$file}") >"$out/text" 2>&1 </dev/null
     status=$?
     case $status in
       0) answered=$((answered + 1)) ;;
-      124) hung=$((hung + 1)) ;;
+      152) hung=$((hung + 1)) ;;
       12[5-9] | 1[3-9]? | 2??) crashed=$((crashed + 1)) ;;
       *) refused=$((refused + 1)) ;;
     esac
