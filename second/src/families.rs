@@ -149,7 +149,7 @@ pub fn compare_writing(
 ) -> Result<Written, Difference> {
     let ample = model(scratch);
     let room = room.bytes(wanted_length(ample));
-    let mut expected = Output::pattern(room);
+    let mut expected = output.pattern(room).to_vec();
     let model = match ample.number {
         OK if ample.length as usize <= room => {
             let length = ample.length as usize;

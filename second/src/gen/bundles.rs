@@ -1,10 +1,10 @@
 //! Bundles with a device name and a length for the lent output.
 
-use super::ids::{self, IdMaker, BROKEN, EDGES};
+use super::ids::{self, IdMaker, Meaning, BROKEN, EDGES};
 use super::random::Random;
 use super::{Aim, Room, LIMIT};
 use crate::model::bundle::MAGIC_BYTES;
-use crate::model::id::{meaning, Meaning, Sign};
+use crate::model::id::{Sign, Text};
 use crate::model::*;
 use crate::samples;
 
@@ -169,8 +169,7 @@ impl Draft {
 
     /// An entry at the limits, with this ID as spelled; its meaning is there once.
     fn put_id(&mut self, random: &mut Random, id: Vec<u8>) {
-        let meaning = meaning(&id).expect("an ID that keeps the rules");
-        let at = self.put_meaning(random, meaning);
+        let at = self.put_meaning(random, ids::meaning_of(&id));
         self.rows[at].set_id(id);
     }
 
@@ -499,7 +498,7 @@ fn composition_aims() -> Vec<BundleAim> {
         }),
         check(MIXED, "a feature more", |draft, random| {
             beside(draft, random, |meaning, random| {
-                meaning.features.insert(b"only_here".to_vec(), *random.choose(&[Sign::On, Sign::Off]));
+                meaning.features.insert(b"only_here"[..].into(), *random.choose(&[Sign::On, Sign::Off]));
             })
         }),
         check(MIXED, "a feature less", |draft, random| {
@@ -508,7 +507,7 @@ fn composition_aims() -> Vec<BundleAim> {
         check(MIXED, "another feature", |draft, random| {
             beside(draft, random, |meaning, _| {
                 ids::drop_last_feature(meaning);
-                meaning.features.insert(b"only_here".to_vec(), Sign::On);
+                meaning.features.insert(b"only_here"[..].into(), Sign::On);
             })
         }),
         check(OK, "another sign", |draft, random| {
@@ -519,17 +518,22 @@ fn composition_aims() -> Vec<BundleAim> {
         }),
         check(OK, "hip beside hipv4", |draft, random| {
             beside(draft, random, |meaning, _| {
-                let other: &[u8] = if meaning.kind == b"hip" { b"hipv4" } else { b"hip" };
-                meaning.kind = other.to_vec();
+                meaning.kind = other_hip(meaning);
             })
         }),
         check(OK, "another processor", |draft, random| {
             beside(draft, random, |meaning, random| {
-                meaning.processor.as_mut().expect("a processor").push(*random.choose(b"abc_."));
+                meaning.processor.as_mut().expect("a processor").to_mut().push(*random.choose(b"abc_."));
                 ids::drop_first_feature(meaning);
             })
         }),
     ]
+}
+
+/// `hipv4` beside `hip`, `hip` beside any other kind.
+fn other_hip(meaning: &Meaning) -> Text<'static> {
+    let other: &[u8] = if meaning.kind == &b"hip"[..] { b"hipv4" } else { b"hip" };
+    other.into()
 }
 
 /// Puts an entry with one to four features into the bundle, and beside it what a change makes of it.
@@ -585,13 +589,15 @@ fn device_aims() -> Vec<BundleAim> {
         asks(NONE, "device: a feature less", |device, _| ids::drop_last_feature(device)),
         asks(NONE, "device: no feature", |device, _| device.features.clear()),
         asks(NONE, "device: another kind", |device, _| {
-            device.kind = if device.kind == b"hip" { b"hipv4".to_vec() } else { b"hip".to_vec() };
+            device.kind = other_hip(device);
         }),
-        asks(NONE, "device: another arch", |device, _| device.arch.push(b'x')),
-        asks(NONE, "device: another vendor", |device, _| device.vendor.push(b'x')),
-        asks(NONE, "device: another system", |device, _| device.system.push(b'x')),
-        asks(NONE, "device: another environment", |device, _| device.environment.push(b'x')),
-        asks(NONE, "device: another processor", |device, _| device.processor.as_mut().expect("one").push(b'x')),
+        asks(NONE, "device: another arch", |device, _| device.arch.to_mut().push(b'x')),
+        asks(NONE, "device: another vendor", |device, _| device.vendor.to_mut().push(b'x')),
+        asks(NONE, "device: another system", |device, _| device.system.to_mut().push(b'x')),
+        asks(NONE, "device: another environment", |device, _| device.environment.to_mut().push(b'x')),
+        asks(NONE, "device: another processor", |device, _| {
+            device.processor.as_mut().expect("one").to_mut().push(b'x')
+        }),
         asks(NONE, "device: no processor", |device, _| {
             device.processor = None;
             device.features.clear();

@@ -1,11 +1,11 @@
 //! Records for the bundle writer, with the two buffers they name parts of.
 
 use super::bundles::some_count;
-use super::ids::{self, IdMaker, BROKEN, EDGES};
+use super::ids::{self, IdMaker, Meaning, BROKEN, EDGES};
 use super::random::Random;
 use super::{Aim, Room, LIMIT};
 use crate::model::bundle_writer::Record;
-use crate::model::id::{Meaning, Sign};
+use crate::model::id::Sign;
 use crate::model::*;
 
 /// What the bundle writer is given: the image buffer is followed by `zeros` zero bytes.
@@ -211,7 +211,7 @@ fn composition_aims() -> Vec<WriterAim> {
             let count = random.between(1, 3);
             let meaning = ids::with_feature_count(random, count);
             let mut other = meaning.clone();
-            other.features.insert(b"only_here".to_vec(), Sign::Off);
+            other.features.insert(b"only_here"[..].into(), Sign::Off);
             case.records.truncate(60);
             case.put_meaning(random, &meaning);
             case.put_meaning(random, &other);
