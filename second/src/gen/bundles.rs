@@ -185,15 +185,16 @@ impl Draft {
 
 /// 0 to 64 entries, mostly few.
 pub fn some_count(random: &mut Random) -> usize {
-    match random.below(40) {
-        0 => 0,
-        1..=24 => random.between(1, 4),
-        25..=34 => random.between(5, 12),
-        35..=37 => random.between(13, 40),
-        38 => random.between(41, 63),
-        _ => 64,
+    match random.below(80) {
+        0..=1 => 0,
+        2..=61 => random.between(1, 4),
+        62..=77 => random.between(5, 12),
+        _ => random.between(13, 64),
     }
 }
+
+/// How many images of the size limit make an output far above it: above 2^31, above 2^32, and the most there can be.
+pub const FAR_ABOVE: &[usize] = &[3, 5, 64];
 
 /// Starts and sizes of images in a body: packed, in any order, with gaps, shared, overlapping, empty.
 fn spans(random: &mut Random, count: usize, length: usize) -> Vec<(usize, usize)> {
@@ -651,7 +652,8 @@ fn normal_form_aims() -> Vec<BundleAim> {
         normalise(ROOM, "normal form of the size limit", |draft, random| normal_length(draft, random, LIMIT)),
         normalise(BIG, "normal form 1 above the size limit", |draft, random| normal_length(draft, random, LIMIT + 1)),
         normalise(BIG, "normal form far above the size limit", |draft, random| {
-            *draft = Draft::good(random, 64);
+            let count = *random.choose(FAR_ABOVE);
+            *draft = Draft::good(random, count);
             fill_to(draft, LIMIT);
             let (start, length) = (draft.table_end(), draft.length());
             draft.rows.iter_mut().for_each(|row| row.set_image(start, length - start));

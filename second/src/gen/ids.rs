@@ -1,7 +1,7 @@
 //! Entry IDs and device names: meanings, their spellings, the limits, and broken ones.
 
 use super::random::Random;
-use crate::model::id::{canonical, meaning, same_target, sign_byte, Sign, Text};
+use crate::model::id::{meaning, same_target, sign_byte, Sign, Text};
 use std::collections::{BTreeMap, BTreeSet};
 
 /// A meaning with texts of its own.
@@ -117,12 +117,20 @@ pub fn some_feature_count(random: &mut Random) -> usize {
     }
 }
 
+/// How long the canonical form is: six fields with five dashes, and each feature with its colon and its sign.
+fn canonical_length(meaning: &Meaning) -> usize {
+    let Meaning { kind, arch, vendor, system, environment, processor, features } = meaning;
+    let fields = kind.len() + arch.len() + vendor.len() + system.len() + environment.len();
+    let processor = processor.as_ref().map_or(0, |name| name.len());
+    fields + processor + 5 + features.keys().map(|name| name.len() + 2).sum::<usize>()
+}
+
 /// Any meaning that keeps the rules.
 pub fn some_meaning(random: &mut Random) -> Meaning {
     loop {
         let count = some_feature_count(random);
         let meaning = if count == 0 { target(random) } else { with_feature_count(random, count) };
-        if canonical(&meaning).len() <= 256 {
+        if canonical_length(&meaning) <= 256 {
             return meaning;
         }
     }
@@ -154,7 +162,7 @@ pub fn with_more_features(random: &mut Random, meaning: &Meaning) -> Meaning {
             more.features.entry(name).or_insert(sign);
         }
     }
-    if canonical(&more).len() <= 256 {
+    if canonical_length(&more) <= 256 {
         more
     } else {
         meaning.clone()
@@ -183,7 +191,7 @@ fn group(random: &mut Random, target: Meaning, most: usize) -> Vec<Meaning> {
     let tries = random.between(1, 4).min(most);
     for _ in 0..tries {
         let meaning = with_features(random, target.clone(), &names);
-        if canonical(&meaning).len() <= 256 && !group.contains(&meaning) {
+        if canonical_length(&meaning) <= 256 && !group.contains(&meaning) {
             group.push(meaning);
         }
     }
@@ -325,7 +333,7 @@ fn of_features(random: &mut Random, count: usize) -> Vec<u8> {
     loop {
         let meaning = with_feature_count(random, count);
         let id = spelled(random, &meaning);
-        if canonical(&meaning).len() <= 256 {
+        if canonical_length(&meaning) <= 256 {
             return id;
         }
     }
@@ -342,7 +350,7 @@ fn like_a_processor(random: &mut Random) -> Vec<u8> {
 fn short_meaning(random: &mut Random) -> Meaning {
     loop {
         let meaning = some_meaning(random);
-        if canonical(&meaning).len() <= 180 {
+        if canonical_length(&meaning) <= 180 {
             return meaning;
         }
     }
@@ -451,6 +459,7 @@ fn no_processor(random: &mut Random, fields: usize) -> Vec<u8> {
 #[cfg(test)]
 mod tests {
     use super::*;
+    use crate::model::id::canonical;
 
     #[test]
     fn spellings_mean_what_they_spell() {
@@ -458,6 +467,7 @@ mod tests {
         for _ in 0..20_000 {
             let expected = some_meaning(&mut random);
             let id = spelled(&mut random, &expected);
+            assert_eq!(canonical_length(&expected), canonical(&expected).len());
             assert_eq!(meaning(&id), Some(expected), "{}", String::from_utf8_lossy(&id));
         }
     }

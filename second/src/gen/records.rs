@@ -1,6 +1,6 @@
 //! Records for the bundle writer, with the two buffers they name parts of.
 
-use super::bundles::some_count;
+use super::bundles::{some_count, FAR_ABOVE};
 use super::ids::{self, IdMaker, Meaning, BROKEN, EDGES};
 use super::random::Random;
 use super::{Aim, Room, LIMIT};
@@ -227,7 +227,8 @@ fn output_aims() -> Vec<WriterAim> {
         write(ROOM, "output of the size limit", |case, random| output_length(case, random, LIMIT)),
         write(BIG, "output 1 above the size limit", |case, random| output_length(case, random, LIMIT + 1)),
         write(BIG, "output far above the size limit", |case, random| {
-            *case = Case::good(random, 64);
+            let count = *random.choose(FAR_ABOVE);
+            *case = Case::good(random, count);
             case.zeros = LIMIT;
             let length = case.image_length();
             for record in &mut case.records {
