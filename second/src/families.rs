@@ -107,15 +107,21 @@ impl Report {
         }
     }
 
-    /// Numbers that never came, counts of entries that were never accepted, and lines that were never met.
+    /// Numbers that never came, lines that were never met, and counts of entries that were never accepted.
     pub fn missing(&self) -> Vec<String> {
+        let mut missing = self.missing_lines();
+        let never = self.entry_counts.iter().enumerate().filter(|(_, seen)| **seen == 0);
+        missing.extend(never.map(|(count, _)| format!("check: no bundle of {count} entries was accepted")));
+        missing
+    }
+
+    /// Numbers that never came, and lines that were never met.
+    pub fn missing_lines(&self) -> Vec<String> {
         let mut missing = Vec::new();
         for tally in &self.tallies {
             let never = tally.must_come.iter().filter(|number| tally.seen[**number as usize] == 0);
             missing.extend(never.map(|number| format!("{}: number {number} never came", tally.call)));
         }
-        let never = self.entry_counts.iter().enumerate().filter(|(_, seen)| **seen == 0);
-        missing.extend(never.map(|(count, _)| format!("check: no bundle of {count} entries was accepted")));
         let never = self.aims.iter().filter(|aim| aim.met == 0);
         missing.extend(never.map(|aim| format!("{}: never met with number {}: {}", aim.call, aim.number, aim.name)));
         missing

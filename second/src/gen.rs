@@ -23,13 +23,14 @@ pub struct Aim<Draft> {
 }
 
 impl<Draft> Aim<Draft> {
+    #[inline(never)]
     pub fn new(
         call: &'static str,
         number: u64,
-        name: impl Into<String>,
+        name: &str,
         make: impl Fn(&mut Draft, &mut Random) + 'static,
     ) -> Aim<Draft> {
-        Aim { name: name.into(), call, number, make: Box::new(make) }
+        Aim { name: name.to_string(), call, number, make: Box::new(make) }
     }
 }
 

@@ -135,8 +135,8 @@ pub struct Output {
 
 impl Output {
     pub fn new() -> Output {
-        let pattern = (0..2 * SMALL).map(|k| (k as u8).wrapping_mul(37) ^ 0xA5).collect();
-        Output { pages: Pages::new(2 * SMALL), pattern }
+        let every_byte: Vec<u8> = (0..=255u8).map(|k| k.wrapping_mul(37) ^ 0xA5).collect();
+        Output { pages: Pages::new(2 * SMALL), pattern: every_byte.repeat(2 * SMALL / 256) }
     }
 
     pub fn pattern(&self, length: usize) -> &[u8] {

@@ -244,23 +244,25 @@ pub fn shake(case: &mut Case, random: &mut Random) {
 
 type BinaryAim = Aim<Draft>;
 
-fn read(number: u64, name: &str, make: impl Fn(&mut Draft, &mut Random) + 'static) -> BinaryAim {
-    Aim::new("binaries", number, name, make)
+const CALL: &str = "binaries";
+
+fn read(number: u64, name: &str, make: fn(&mut Draft, &mut Random)) -> BinaryAim {
+    Aim::new(CALL, number, name, make)
 }
 
 /// Damage to some binary.
 fn some(number: u64, name: &str, change: fn(&mut BinaryDraft, &mut Random)) -> BinaryAim {
-    read(number, name, move |draft, random| change(draft.some_binary(random), random))
+    Aim::new(CALL, number, name, move |draft: &mut Draft, random| change(draft.some_binary(random), random))
 }
 
 /// Damage to the last binary.
 fn last(number: u64, name: &str, change: fn(&mut BinaryDraft, &mut Random)) -> BinaryAim {
-    read(number, name, move |draft, random| change(draft.last(random), random))
+    Aim::new(CALL, number, name, move |draft: &mut Draft, random| change(draft.last(random), random))
 }
 
 /// Damage to a binary with this many pairs at least, 1 to 4.
 fn strung(number: u64, name: &str, least: usize, change: fn(&mut BinaryDraft, &mut Random)) -> BinaryAim {
-    read(number, name, move |draft, random| {
+    Aim::new(CALL, number, name, move |draft: &mut Draft, random| {
         let count = random.between(least, 4);
         let mut binary = BinaryDraft::good(random, count);
         change(&mut binary, random);
@@ -497,7 +499,7 @@ fn string_aims() -> Vec<BinaryAim> {
 /// 17.
 fn image_aims() -> Vec<BinaryAim> {
     let image = |number: u64, name: &str, place: fn(u64, &mut Random) -> (u64, u64)| {
-        read(number, name, move |draft, random| {
+        Aim::new(CALL, number, name, move |draft: &mut Draft, random| {
             let binary = draft.some_binary(random);
             (binary.image_offset, binary.image_size) = place(binary.length(), random);
         })

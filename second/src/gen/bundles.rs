@@ -271,15 +271,15 @@ pub fn aims() -> Vec<Aim<Draft>> {
 
 type BundleAim = Aim<Draft>;
 
-fn check(number: u64, name: &str, make: impl Fn(&mut Draft, &mut Random) + 'static) -> BundleAim {
+fn check(number: u64, name: &str, make: fn(&mut Draft, &mut Random)) -> BundleAim {
     Aim::new("check", number, name, make)
 }
 
-fn pick(number: u64, name: &str, make: impl Fn(&mut Draft, &mut Random) + 'static) -> BundleAim {
+fn pick(number: u64, name: &str, make: fn(&mut Draft, &mut Random)) -> BundleAim {
     Aim::new("pick", number, name, make)
 }
 
-fn normalise(number: u64, name: &str, make: impl Fn(&mut Draft, &mut Random) + 'static) -> BundleAim {
+fn normalise(number: u64, name: &str, make: fn(&mut Draft, &mut Random)) -> BundleAim {
     Aim::new("normalise", number, name, make)
 }
 
@@ -393,7 +393,7 @@ fn table_aims() -> Vec<BundleAim> {
 
 /// Another ID length in some row.
 fn id_length(number: u64, name: &str, length: fn(&Draft, usize, &mut Random) -> u64) -> BundleAim {
-    check(number, name, move |draft, random| {
+    Aim::new("check", number, name, move |draft: &mut Draft, random| {
         let at = draft.some_row(random);
         draft.rows[at].id_length = length(draft, at, random);
     })
@@ -403,14 +403,14 @@ fn id_length(number: u64, name: &str, length: fn(&Draft, usize, &mut Random) -> 
 fn id_aims() -> Vec<BundleAim> {
     let edge = |maker: &IdMaker| {
         let make = maker.make;
-        check(OK, &format!("entry: {}", maker.name), move |draft, random| {
+        Aim::new("check", OK, &format!("entry: {}", maker.name), move |draft: &mut Draft, random| {
             let id = make(random);
             draft.put_id(random, id);
         })
     };
     let broken = |maker: &IdMaker| {
         let make = maker.make;
-        check(ID, &format!("entry: {}", maker.name), move |draft, random| {
+        Aim::new("check", ID, &format!("entry: {}", maker.name), move |draft: &mut Draft, random| {
             let at = draft.some_row(random);
             draft.rows[at].set_id(make(random));
         })
@@ -471,7 +471,7 @@ fn range_aims() -> Vec<BundleAim> {
 
 /// Another offset and size in some row, from the table end and the length.
 fn image(number: u64, name: &str, place: fn(u64, u64, &mut Random) -> (u64, u64)) -> BundleAim {
-    check(number, name, move |draft, random| {
+    Aim::new("check", number, name, move |draft: &mut Draft, random| {
         let at = draft.some_row(random);
         let (offset, size) = place(draft.table_end(), draft.length(), random);
         draft.rows[at].set_image(offset, size);
@@ -615,7 +615,7 @@ fn device_aims() -> Vec<BundleAim> {
 
 /// The device name is what a change makes of the meaning of an entry with features.
 fn asks(number: u64, name: &str, change: fn(&mut Meaning, &mut Random)) -> BundleAim {
-    pick(number, name, move |draft, random| {
+    Aim::new("pick", number, name, move |draft: &mut Draft, random| {
         let entry = entry_with_features(random);
         let mut device = entry.clone();
         change(&mut device, random);
@@ -626,7 +626,7 @@ fn asks(number: u64, name: &str, change: fn(&mut Meaning, &mut Random)) -> Bundl
 
 fn device_at_edge(maker: &IdMaker) -> BundleAim {
     let make = maker.make;
-    pick(OK, &format!("device: {}", maker.name), move |draft, random| {
+    Aim::new("pick", OK, &format!("device: {}", maker.name), move |draft: &mut Draft, random| {
         let id = make(random);
         draft.put_id(random, id.clone());
         draft.device = id;
@@ -635,7 +635,9 @@ fn device_at_edge(maker: &IdMaker) -> BundleAim {
 
 fn broken_device(maker: &IdMaker) -> BundleAim {
     let make = maker.make;
-    pick(QUERY, &format!("device: {}", maker.name), move |draft, random| draft.device = make(random))
+    Aim::new("pick", QUERY, &format!("device: {}", maker.name), move |draft: &mut Draft, random| {
+        draft.device = make(random)
+    })
 }
 
 /// 11 and 12.

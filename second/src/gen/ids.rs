@@ -2,7 +2,7 @@
 
 use super::random::Random;
 use crate::model::id::{meaning, same_target, sign_byte, Sign, Text};
-use std::collections::{BTreeMap, BTreeSet};
+use std::collections::BTreeMap;
 
 /// A meaning with texts of its own.
 pub type Meaning = crate::model::id::Meaning<'static>;
@@ -85,17 +85,22 @@ pub fn target(random: &mut Random) -> Meaning {
 }
 
 /// So many different feature names.
-pub fn feature_names(random: &mut Random, count: usize) -> BTreeSet<Text<'static>> {
-    let mut names = BTreeSet::new();
+pub fn feature_names(random: &mut Random, count: usize) -> Vec<Text<'static>> {
+    let mut names = Vec::new();
     while names.len() < count {
-        names.insert(feature_name(random));
+        let name = feature_name(random);
+        if !names.contains(&name) {
+            names.push(name);
+        }
     }
     names
 }
 
 /// The meaning with these features, each with some sign.
-pub fn with_features(random: &mut Random, mut meaning: Meaning, names: &BTreeSet<Text<'static>>) -> Meaning {
-    meaning.features = names.iter().map(|name| (name.clone(), sign(random))).collect();
+pub fn with_features(random: &mut Random, mut meaning: Meaning, names: &[Text<'static>]) -> Meaning {
+    for name in names {
+        meaning.features.insert(name.clone(), sign(random));
+    }
     meaning
 }
 

@@ -85,8 +85,10 @@ pub fn some_case(random: &mut Random) -> Case {
 
 type WriterAim = Aim<Case>;
 
-fn write(number: u64, name: &str, make: impl Fn(&mut Case, &mut Random) + 'static) -> WriterAim {
-    Aim::new("bundle writer", number, name, make)
+const CALL: &str = "bundle writer";
+
+fn write(number: u64, name: &str, make: fn(&mut Case, &mut Random)) -> WriterAim {
+    Aim::new(CALL, number, name, make)
 }
 
 pub fn aims() -> Vec<WriterAim> {
@@ -119,7 +121,7 @@ fn with_count(case: &mut Case, random: &mut Random, count: usize) {
 
 /// Another ID part in some record, from the length of the ID buffer.
 fn id_part(number: u64, name: &str, part: fn(u64, &Record, &mut Random) -> (u64, u64)) -> WriterAim {
-    write(number, name, move |case, random| {
+    Aim::new(CALL, number, name, move |case: &mut Case, random| {
         let at = case.some_record(random);
         let (start, length) = part(case.ids.len() as u64, &case.records[at], random);
         case.records[at].id_start = start;
@@ -155,7 +157,7 @@ fn id_part_aims() -> Vec<WriterAim> {
 fn id_aims() -> Vec<WriterAim> {
     let put = |number: u64, maker: &IdMaker| {
         let make = maker.make;
-        write(number, &format!("record: {}", maker.name), move |case, random| {
+        Aim::new(CALL, number, &format!("record: {}", maker.name), move |case: &mut Case, random| {
             let id = make(random);
             case.put_id(random, &id);
             case.room = Room::Exact;
@@ -166,7 +168,7 @@ fn id_aims() -> Vec<WriterAim> {
 
 /// Another image part in some record, from the length of the image buffer.
 fn image_part(number: u64, name: &str, part: fn(u64, &mut Random) -> (u64, u64)) -> WriterAim {
-    write(number, name, move |case, random| {
+    Aim::new(CALL, number, name, move |case: &mut Case, random| {
         let at = case.some_record(random);
         let (start, length) = part(case.image_length(), random);
         case.records[at].image_start = start;

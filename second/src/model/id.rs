@@ -2,7 +2,7 @@
 
 use super::{FEATURE_LIMIT, ID_LIMIT};
 use std::borrow::Cow;
-use std::collections::{BTreeMap, BTreeSet};
+use std::collections::BTreeMap;
 
 /// "then `+` (on) or `-` (off)".
 #[derive(Clone, Copy, Debug, PartialEq, Eq, PartialOrd, Ord)]
@@ -154,9 +154,5 @@ pub fn compatible(entry: &Meaning, device: &Meaning) -> bool {
 
 /// "Entries with the same kind, triple and processor state the same set of feature names": these two do not.
 pub fn mixed(one: &Meaning, other: &Meaning) -> bool {
-    same_target(one, other) && feature_names(one) != feature_names(other)
-}
-
-fn feature_names<'a>(meaning: &'a Meaning) -> BTreeSet<&'a Text<'a>> {
-    meaning.features.keys().collect()
+    same_target(one, other) && one.features.keys().ne(other.features.keys())
 }
