@@ -118,7 +118,8 @@ impl Draft {
 
     pub fn bytes(&self) -> Vec<u8> {
         let table_end = self.table_end();
-        let mut bytes = self.magic.clone();
+        let mut bytes = Vec::with_capacity(table_end as usize + self.body.len());
+        bytes.extend(&self.magic);
         bytes.extend(self.count.to_le_bytes());
         for row in &self.rows {
             let offset = match row.offset {

@@ -223,13 +223,18 @@ fn field_counts(meaning: &Meaning) -> Vec<usize> {
 
 /// The fields of a meaning, so many of them.
 fn fields_of(meaning: &Meaning, count: usize) -> Vec<Text<'static>> {
-    let mut fields = vec![meaning.kind.clone(), meaning.arch.clone(), meaning.vendor.clone(), meaning.system.clone()];
-    match (count, &meaning.processor) {
-        (4, _) => {}
-        (5, Some(name)) => fields.push(name.clone()),
-        (5, None) => fields.push(meaning.environment.clone()),
-        (_, name) => fields.extend([meaning.environment.clone(), name.clone().unwrap_or_default()]),
+    let mut fields = vec![
+        meaning.kind.clone(),
+        meaning.arch.clone(),
+        meaning.vendor.clone(),
+        meaning.system.clone(),
+        meaning.environment.clone(),
+        meaning.processor.clone().unwrap_or_default(),
+    ];
+    if count == 5 && meaning.processor.is_some() {
+        fields.remove(4);
     }
+    fields.truncate(count);
     fields
 }
 
@@ -243,7 +248,12 @@ fn feature_texts(random: &mut Random, meaning: &Meaning) -> Vec<Vec<u8>> {
 
 /// An ID of these fields and feature pieces.
 fn text(fields: &[Text], pieces: &[Vec<u8>]) -> Vec<u8> {
-    let mut text = fields.join(&b'-');
+    let mut text = Vec::with_capacity(256);
+    for field in fields {
+        text.extend(&field[..]);
+        text.push(b'-');
+    }
+    text.pop();
     for piece in pieces {
         text.push(b':');
         text.extend(piece);
