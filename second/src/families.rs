@@ -130,13 +130,23 @@ impl Report {
 
 /// Applies one aim to a draft, and now and then another one over it. The aim's index, if it is alone.
 pub fn apply_aims<D>(aims: &[Aim<D>], draft: &mut D, random: &mut Random) -> Option<usize> {
-    let aim = random.below(aims.len());
+    let aim = some_aim(aims, random);
     (aims[aim].make)(draft, random);
     if random.one_in(6) {
-        (random.choose(aims).make)(draft, random);
+        (aims[some_aim(aims, random)].make)(draft, random);
         return None;
     }
     Some(aim)
+}
+
+/// The index of some aim; a large one comes a quarter as often as another.
+fn some_aim<D>(aims: &[Aim<D>], random: &mut Random) -> usize {
+    loop {
+        let aim = random.below(aims.len());
+        if !aims[aim].large || random.one_in(4) {
+            return aim;
+        }
+    }
 }
 
 /// Room for every output that a case may write.

@@ -20,6 +20,8 @@ pub struct Aim<Draft> {
     pub call: &'static str,
     pub number: u64,
     pub make: Make<Draft>,
+    /// Its cases are far larger than others: fewer are aimed at it.
+    pub large: bool,
 }
 
 impl<Draft> Aim<Draft> {
@@ -30,7 +32,11 @@ impl<Draft> Aim<Draft> {
         name: &str,
         make: impl Fn(&mut Draft, &mut Random) + 'static,
     ) -> Aim<Draft> {
-        Aim { name: name.to_string(), call, number, make: Box::new(make) }
+        Aim { name: name.to_string(), call, number, make: Box::new(make), large: false }
+    }
+
+    pub fn large(self) -> Aim<Draft> {
+        Aim { large: true, ..self }
     }
 }
 

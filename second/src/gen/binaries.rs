@@ -292,12 +292,13 @@ fn shape_aims() -> Vec<BinaryAim> {
     vec![
         read(END, "any binaries", |_, _| {}),
         read(END, "no bytes", |draft, _| draft.binaries.clear()),
-        read(END, "64 binaries", |draft, random| *draft = Draft::good(random, 64)),
-        read(MANY, "65 binaries", |draft, random| *draft = Draft::good(random, 65)),
+        read(END, "64 binaries", |draft, random| *draft = Draft::good(random, 64)).large(),
+        read(MANY, "65 binaries", |draft, random| *draft = Draft::good(random, 65)).large(),
         read(MANY, "a byte after the 64th binary", |draft, random| {
             *draft = Draft::good(random, 64);
             draft.tail = random.bytes(1);
-        }),
+        })
+        .large(),
         read(LENGTH, "container 1 above the size limit", |draft, _| {
             draft.zeros = LIMIT + 1 - draft.case().binaries.len()
         }),

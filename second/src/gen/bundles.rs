@@ -294,8 +294,8 @@ fn shape_aims() -> Vec<BundleAim> {
         }),
         check(OK, "no entries", |draft, random| *draft = Draft::good(random, 0)),
         check(OK, "1 entry", |draft, random| *draft = Draft::good(random, 1)),
-        check(OK, "63 entries", |draft, random| *draft = Draft::good(random, 63)),
-        check(OK, "64 entries", |draft, random| *draft = Draft::good(random, 64)),
+        check(OK, "63 entries", |draft, random| *draft = Draft::good(random, 63)).large(),
+        check(OK, "64 entries", |draft, random| *draft = Draft::good(random, 64)).large(),
         check(OK, "nothing after the table", |draft, _| draft.drop_images()),
         check(OK, "fewer counted than stand there", |draft, random| {
             draft.some_row(random);
@@ -330,7 +330,8 @@ fn head_aims() -> Vec<BundleAim> {
         check(COUNT, "31 bytes", |draft, _| draft.cut = Some(31)),
         check(COUNT, "65 entries", |draft, random| {
             *draft = Draft::good(random, 65);
-        }),
+        })
+        .large(),
         check(COUNT, "count of 65 before fewer entries", |draft, _| draft.count = 65),
         check(COUNT, "count of 2^64 - 1", |draft, _| draft.count = u64::MAX),
         check(COUNT, "count with one high bit more", |draft, random| draft.count ^= 1 << random.between(7, 63)),
@@ -572,7 +573,7 @@ fn device_aims() -> Vec<BundleAim> {
             let device = ids::with_more_features(random, &draft.rows[at].meaning);
             draft.device = ids::spelled(random, &device);
         }),
-        pick(OK, "device: one of 64 entries", |draft, random| *draft = Draft::good(random, 64)),
+        pick(OK, "device: one of 64 entries", |draft, random| *draft = Draft::good(random, 64)).large(),
         pick(NONE, "device: no entries", |draft, random| *draft = Draft::good(random, 0)),
         pick(QUERY, "device: no bytes", |draft, _| draft.device.clear()),
         pick(QUERY, "device: 257 bytes", |draft, random| draft.device = ids::of_length(random, 6, 257)),
@@ -649,7 +650,8 @@ fn normal_form_aims() -> Vec<BundleAim> {
         normalise(OK, "64 entries in normal form", |draft, random| {
             *draft = Draft::good(random, 64);
             draft.room = Room::Exact;
-        }),
+        })
+        .large(),
         normalise(ROOM, "room 1 byte short", |draft, _| draft.room = Room::Short(1)),
         normalise(ROOM, "no room", |draft, _| draft.room = Room::Nothing),
         normalise(ROOM, "normal form of the size limit", |draft, random| normal_length(draft, random, LIMIT)),

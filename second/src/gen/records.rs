@@ -106,11 +106,12 @@ fn count_aims() -> Vec<WriterAim> {
     vec![
         write(OK, "any records", |case, _| case.room = Room::Exact),
         write(OK, "no records", |case, random| with_count(case, random, 0)),
-        write(OK, "64 records", |case, random| with_count(case, random, 64)),
+        write(OK, "64 records", |case, random| with_count(case, random, 64)).large(),
         write(COUNT, "65 records", |case, random| {
             with_count(case, random, 64);
             case.records.push(case.records[0]);
-        }),
+        })
+        .large(),
     ]
 }
 
