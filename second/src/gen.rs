@@ -25,6 +25,7 @@ pub struct Aim<Draft> {
 }
 
 impl<Draft> Aim<Draft> {
+    /// Hundreds of aims are listed: compiled into each line of the lists, this would take long.
     #[inline(never)]
     pub fn new(
         call: &'static str,

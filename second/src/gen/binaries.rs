@@ -132,28 +132,31 @@ fn strings(random: &mut Random, count: usize) -> (Vec<u8>, Vec<(usize, usize)>) 
     for number in 0..count {
         let whole_at = bytes.len();
         if random.one_in(3) {
-            put_string_bytes(random, &mut bytes);
+            add_letters(random, &mut bytes);
         }
         let key_at = bytes.len();
         bytes.push(b'A' + number as u8);
-        put_string_bytes(random, &mut bytes);
-        bytes.push(0);
+        add_string(random, &mut bytes);
         let text_at = match random.below(4) {
             0 => whole_at,
             1 => offsets.first().map_or(key_at, |first| first.1),
-            _ => bytes.len(),
+            _ => add_string(random, &mut bytes),
         };
-        if text_at == bytes.len() {
-            put_string_bytes(random, &mut bytes);
-            bytes.push(0);
-        }
         offsets.push((key_at, text_at));
     }
     (bytes, offsets)
 }
 
+/// Some string with its zero at the end of the bytes, and where it begins.
+fn add_string(random: &mut Random, bytes: &mut Vec<u8>) -> usize {
+    let at = bytes.len();
+    add_letters(random, bytes);
+    bytes.push(0);
+    at
+}
+
 /// The bytes of some string, without its zero.
-fn put_string_bytes(random: &mut Random, bytes: &mut Vec<u8>) {
+fn add_letters(random: &mut Random, bytes: &mut Vec<u8>) {
     let longest = if random.one_in(30) { 120 } else { 8 };
     let length = random.between(0, longest);
     bytes.extend((0..length).map(|_| random.between(1, 255) as u8));

@@ -152,7 +152,8 @@ pub fn compatible(entry: &Meaning, device: &Meaning) -> bool {
     same_target(entry, device) && entry.features.iter().all(|(name, sign)| device.features.get(name) == Some(sign))
 }
 
-/// "Entries with the same kind, triple and processor state the same set of feature names": these two do not.
+/// "Entries with the same kind, triple and processor state the same set of feature names": these two do not. A `BTreeMap` gives its
+/// keys in order, so the sets are the same where the keys are.
 pub fn mixed(one: &Meaning, other: &Meaning) -> bool {
     same_target(one, other) && one.features.keys().ne(other.features.keys())
 }
