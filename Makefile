@@ -4,7 +4,7 @@ SHELL := /bin/bash
 .SHELLFLAGS := -eu -o pipefail -c
 
 CARGO := cargo --quiet
-SECOND := --release --offline --manifest-path second/Cargo.toml
+SECOND := --offline --manifest-path second/Cargo.toml
 LIBRARY := target/staticlib/liboffload.a
 STRICT := -Wall -Wextra -Werror -pedantic -Iinclude
 POSIX := gcc -std=c99 -D_POSIX_C_SOURCE=200809L -O2 $(STRICT)
@@ -57,7 +57,7 @@ stack: library
 
 # The library against the second program: the same rules, written a second time.
 compare: harness
-	$(CARGO) build $(SECOND)
+	$(CARGO) build --release $(SECOND)
 	second/target/release/compare
 
 # The second program's own tests.

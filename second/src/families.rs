@@ -107,15 +107,21 @@ impl Report {
         }
     }
 
-    /// Numbers that never came, counts of entries that were never accepted, and lines that were never met.
+    /// Numbers that never came, lines that were never met, and counts of entries that were never accepted.
     pub fn missing(&self) -> Vec<String> {
+        let mut missing = self.missing_lines();
+        let never = self.entry_counts.iter().enumerate().filter(|(_, seen)| **seen == 0);
+        missing.extend(never.map(|(count, _)| format!("check: no bundle of {count} entries was accepted")));
+        missing
+    }
+
+    /// Numbers that never came, and lines that were never met.
+    pub fn missing_lines(&self) -> Vec<String> {
         let mut missing = Vec::new();
         for tally in &self.tallies {
             let never = tally.must_come.iter().filter(|number| tally.seen[**number as usize] == 0);
             missing.extend(never.map(|number| format!("{}: number {number} never came", tally.call)));
         }
-        let never = self.entry_counts.iter().enumerate().filter(|(_, seen)| **seen == 0);
-        missing.extend(never.map(|(count, _)| format!("check: no bundle of {count} entries was accepted")));
         let never = self.aims.iter().filter(|aim| aim.met == 0);
         missing.extend(never.map(|aim| format!("{}: never met with number {}: {}", aim.call, aim.number, aim.name)));
         missing
@@ -124,13 +130,23 @@ impl Report {
 
 /// Applies one aim to a draft, and now and then another one over it. The aim's index, if it is alone.
 pub fn apply_aims<D>(aims: &[Aim<D>], draft: &mut D, random: &mut Random) -> Option<usize> {
-    let aim = random.below(aims.len());
+    let aim = some_aim(aims, random);
     (aims[aim].make)(draft, random);
     if random.one_in(6) {
-        (random.choose(aims).make)(draft, random);
+        (aims[some_aim(aims, random)].make)(draft, random);
         return None;
     }
     Some(aim)
+}
+
+/// The index of some aim; a large one comes a quarter as often as another.
+fn some_aim<D>(aims: &[Aim<D>], random: &mut Random) -> usize {
+    loop {
+        let aim = random.below(aims.len());
+        if !aims[aim].large || random.one_in(4) {
+            return aim;
+        }
+    }
 }
 
 /// Room for every output that a case may write.
@@ -149,7 +165,7 @@ pub fn compare_writing(
 ) -> Result<Written, Difference> {
     let ample = model(scratch);
     let room = room.bytes(wanted_length(ample));
-    let mut expected = Output::pattern(room);
+    let mut expected = output.pattern(room).to_vec();
     let model = match ample.number {
         OK if ample.length as usize <= room => {
             let length = ample.length as usize;

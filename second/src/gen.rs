@@ -20,16 +20,24 @@ pub struct Aim<Draft> {
     pub call: &'static str,
     pub number: u64,
     pub make: Make<Draft>,
+    /// Its cases are far larger than others: fewer are aimed at it.
+    pub large: bool,
 }
 
 impl<Draft> Aim<Draft> {
+    /// Hundreds of aims are listed: compiled into each line of the lists, this would take long.
+    #[inline(never)]
     pub fn new(
         call: &'static str,
         number: u64,
-        name: impl Into<String>,
+        name: &str,
         make: impl Fn(&mut Draft, &mut Random) + 'static,
     ) -> Aim<Draft> {
-        Aim { name: name.into(), call, number, make: Box::new(make) }
+        Aim { name: name.to_string(), call, number, make: Box::new(make), large: false }
+    }
+
+    pub fn large(self) -> Aim<Draft> {
+        Aim { large: true, ..self }
     }
 }
 

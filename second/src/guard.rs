@@ -130,29 +130,31 @@ const MARGIN: usize = 128;
 /// A slice to write, filled with a pattern.
 pub struct Output {
     pages: Pages,
+    pattern: Vec<u8>,
 }
 
 impl Output {
     pub fn new() -> Output {
-        Output { pages: Pages::new(2 * SMALL) }
+        let every_byte: Vec<u8> = (0..=255u8).map(|k| k.wrapping_mul(37) ^ 0xA5).collect();
+        Output { pages: Pages::new(2 * SMALL), pattern: every_byte.repeat(2 * SMALL / 256) }
     }
 
-    pub fn pattern(length: usize) -> Vec<u8> {
-        (0..length).map(|k| (k as u8).wrapping_mul(37) ^ 0xA5).collect()
+    pub fn pattern(&self, length: usize) -> &[u8] {
+        &self.pattern[..length]
     }
 
     /// Lends an output of this length, filled with the pattern, with a margin before it.
     pub fn lend(&mut self, length: usize) -> &mut [u8] {
         let all = self.pages.end_mut(MARGIN + length);
-        all[..MARGIN].copy_from_slice(&Output::pattern(MARGIN));
-        all[MARGIN..].copy_from_slice(&Output::pattern(length));
+        all[..MARGIN].copy_from_slice(&self.pattern[..MARGIN]);
+        all[MARGIN..].copy_from_slice(&self.pattern[..length]);
         &mut all[MARGIN..]
     }
 
     /// Whether the lent output holds these bytes, and the margin is as it was.
     pub fn holds(&self, expected: &[u8]) -> bool {
         let all = self.pages.end(MARGIN + expected.len());
-        all[..MARGIN] == Output::pattern(MARGIN) && all[MARGIN..] == *expected
+        all[..MARGIN] == *self.pattern(MARGIN) && all[MARGIN..] == *expected
     }
 }
 
@@ -191,12 +193,13 @@ mod tests {
     #[test]
     fn outputs_are_compared_whole() {
         let mut output = Output::new();
+        let pattern = output.pattern(10).to_vec();
         output.lend(10);
-        assert!(output.holds(&Output::pattern(10)));
+        assert!(output.holds(&pattern));
         output.lend(10)[3] = 0;
-        assert!(!output.holds(&Output::pattern(10)));
+        assert!(!output.holds(&pattern));
         output.lend(10);
         output.pages.end_mut(11)[0] ^= 1;
-        assert!(!output.holds(&Output::pattern(10)));
+        assert!(!output.holds(&pattern));
     }
 }

@@ -180,11 +180,11 @@ pub fn next(binaries: &[u8], cursor: Cursor) -> (Binary, Cursor) {
         unsafe { offload_binaries_next(start, length, cursor.at, taken, pair as usize, &mut numbers) };
         numbers
     };
+    let numbers = call(0);
     let pair = |k: u64| {
-        let numbers = call(k);
+        let numbers = if k == 0 { numbers } else { call(k) };
         Pair { key_place: numbers[10], key_length: numbers[11], text_place: numbers[12], text_length: numbers[13] }
     };
-    let numbers = call(0);
     let binary = Binary {
         number: numbers[0],
         place: numbers[1],

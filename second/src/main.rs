@@ -182,7 +182,11 @@ fn fail(running: &Running) -> ! {
     let Running { options, family, case } = running;
     match case {
         None => println!("  an example or a real file: these always run"),
-        Some(case) => println!("  run again: --family {} --seed {} --first {case} --cases 1", options.family.unwrap_or(0), options.seed),
+        Some(case) => println!(
+            "  run again: --family {} --seed {} --first {case} --cases 1",
+            options.family.unwrap_or(0),
+            options.seed
+        ),
     }
     for (name, bytes) in family.files() {
         let file = dump(&options.dump, &format!("{}-{name}", family.name().replace(' ', "-")), &bytes);

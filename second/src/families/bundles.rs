@@ -5,7 +5,7 @@ use crate::calls::BundleCalls;
 use crate::gen::bundles::{aims, sample_case, shake, some_count, Case, Draft};
 use crate::gen::examples::bundle_cases;
 use crate::guard::Inputs;
-use crate::model::bundle::{check, normalise, pick, Checked, Picked};
+use crate::model::bundle::{check_of, entries, normalise_of, pick_of, Checked, Entries, Picked};
 use crate::samples;
 
 const CHECK: (&str, &[u64]) = ("check", &[0, 1, 2, 3, 4, 5, 6, 7, 8]);
@@ -43,10 +43,19 @@ impl Bundles {
     fn compare(&mut self) -> Result<[(&'static str, u64); 3], Difference> {
         self.bundle.lend(&self.case.bundle, self.case.zeros);
         self.device.lend(&self.case.device, 0);
-        let checked = self.compare_check()?;
-        let picked = self.compare_pick()?;
-        let written = self.compare_normalise()?;
-        let kept = self.bundle.lent().starts_with(&self.case.bundle) && self.device.lent() == self.case.device;
+        let (bundle, device) = (self.bundle.lent(), self.device.lent());
+        let entries = entries(bundle);
+        let checked = compare_check(&self.calls, bundle, &entries)?;
+        let picked = compare_pick(&self.calls, bundle, device, &entries)?;
+        let written = compare_writing(
+            NORMALISE.0,
+            self.case.room,
+            &mut self.scratch,
+            &mut self.output,
+            |out| normalise_of(&entries, out),
+            |out, field| (self.calls.normalise)(bundle, out, field),
+        )?;
+        let kept = bundle.starts_with(&self.case.bundle) && device == self.case.device;
         holds("all", kept, KEPT, &"changed")?;
         let numbers = [(CHECK.0, checked.number), (PICK.0, picked.number), (NORMALISE.0, written.number)];
         for (call, number) in numbers {
@@ -56,37 +65,6 @@ impl Bundles {
             self.report.entry_counts[checked.count as usize] += 1;
         }
         Ok(numbers)
-    }
-
-    fn compare_check(&self) -> Result<Checked, Difference> {
-        let model = check(self.bundle.lent());
-        let library = (self.calls.check)(self.bundle.lent());
-        same("check", &model, &library)?;
-        let zeros = if library.number == 0 { library.place == 0 } else { library.count == 0 };
-        holds("check", zeros, ZEROS, &library)?;
-        Ok(model)
-    }
-
-    fn compare_pick(&self) -> Result<Picked, Difference> {
-        let model = pick(self.bundle.lent(), self.device.lent());
-        let library = (self.calls.pick)(self.bundle.lent(), self.device.lent());
-        same("pick", &model, &library)?;
-        let others = [library.index, library.position, library.size];
-        let zeros = if library.number == 0 { library.place == 0 } else { others == [0; 3] };
-        holds("pick", zeros, ZEROS, &library)?;
-        Ok(model)
-    }
-
-    fn compare_normalise(&mut self) -> Result<Written, Difference> {
-        let (bundle, library) = (self.bundle.lent(), self.calls.normalise);
-        compare_writing(
-            NORMALISE.0,
-            self.case.room,
-            &mut self.scratch,
-            &mut self.output,
-            |out| normalise(bundle, out),
-            |out, field| library(bundle, out, field),
-        )
     }
 
     /// Runs the case, and counts it for an aim.
@@ -99,6 +77,23 @@ impl Bundles {
         }
         Ok(())
     }
+}
+
+fn compare_check(calls: &BundleCalls, bundle: &[u8], entries: &Entries) -> Result<Checked, Difference> {
+    let (model, library) = (check_of(entries), (calls.check)(bundle));
+    same(CHECK.0, &model, &library)?;
+    let zeros = if library.number == OK { library.place == 0 } else { library.count == 0 };
+    holds(CHECK.0, zeros, ZEROS, &library)?;
+    Ok(model)
+}
+
+fn compare_pick(calls: &BundleCalls, bundle: &[u8], device: &[u8], entries: &Entries) -> Result<Picked, Difference> {
+    let (model, library) = (pick_of(entries, device), (calls.pick)(bundle, device));
+    same(PICK.0, &model, &library)?;
+    let others = [library.index, library.position, library.size];
+    let zeros = if library.number == OK { library.place == 0 } else { others == [0; 3] };
+    holds(PICK.0, zeros, ZEROS, &library)?;
+    Ok(model)
 }
 
 impl Family for Bundles {

@@ -17,8 +17,8 @@ fn run(family: &mut dyn Family, cases: u64) -> Result<(), Difference> {
 }
 
 fn meets_every_line(mut family: impl Family) {
-    run(&mut family, 20_000).unwrap();
-    assert_eq!(family.report().missing(), Vec::<String>::new());
+    run(&mut family, 4000).unwrap();
+    assert_eq!(family.report().missing_lines(), Vec::<String>::new());
 }
 
 #[test]

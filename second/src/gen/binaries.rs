@@ -80,22 +80,23 @@ impl BinaryDraft {
 
     pub fn bytes(&self) -> Vec<u8> {
         let mut bytes = self.bytes.clone();
-        let mut header = self.magic.to_vec();
-        header.extend(self.version.to_le_bytes());
-        header.extend(self.size.unwrap_or(self.length()).to_le_bytes());
-        header.extend(self.entry_offset.to_le_bytes());
-        header.extend(self.entry_size.to_le_bytes());
-        bytes[..32].copy_from_slice(&header);
-        let mut entry = self.image_kind.to_le_bytes().to_vec();
-        entry.extend(self.offload_kind.to_le_bytes());
-        entry.extend(self.flags.to_le_bytes());
-        for field in [self.table, self.count, self.image_offset, self.image_size] {
-            entry.extend(field.to_le_bytes());
+        let mut put = |at: usize, field: &[u8]| bytes[at..][..field.len()].copy_from_slice(field);
+        put(0, &self.magic);
+        put(4, &self.version.to_le_bytes());
+        put(8, &self.size.unwrap_or(self.length()).to_le_bytes());
+        put(16, &self.entry_offset.to_le_bytes());
+        put(24, &self.entry_size.to_le_bytes());
+        put(self.entry_at, &self.image_kind.to_le_bytes());
+        put(self.entry_at + 2, &self.offload_kind.to_le_bytes());
+        put(self.entry_at + 4, &self.flags.to_le_bytes());
+        put(self.entry_at + 8, &self.table.to_le_bytes());
+        put(self.entry_at + 16, &self.count.to_le_bytes());
+        put(self.entry_at + 24, &self.image_offset.to_le_bytes());
+        put(self.entry_at + 32, &self.image_size.to_le_bytes());
+        for (k, (key, text)) in self.pairs.iter().enumerate() {
+            put(self.pairs_at + 16 * k, &key.to_le_bytes());
+            put(self.pairs_at + 16 * k + 8, &text.to_le_bytes());
         }
-        bytes[self.entry_at..][..40].copy_from_slice(&entry);
-        let pairs: Vec<u8> =
-            self.pairs.iter().flat_map(|(key, text)| [key.to_le_bytes(), text.to_le_bytes()].concat()).collect();
-        bytes[self.pairs_at..][..pairs.len()].copy_from_slice(&pairs);
         bytes
     }
 
@@ -129,32 +130,36 @@ fn strings(random: &mut Random, count: usize) -> (Vec<u8>, Vec<(usize, usize)>) 
     let mut bytes = Vec::new();
     let mut offsets: Vec<(usize, usize)> = Vec::new();
     for number in 0..count {
-        let mut key = vec![b'A' + number as u8];
-        key.extend(string(random));
-        let before = if random.one_in(3) { string(random) } else { Vec::new() };
-        let whole_at = put(&mut bytes, &[before.clone(), key].concat());
-        let key_at = whole_at + before.len();
+        let whole_at = bytes.len();
+        if random.one_in(3) {
+            add_letters(random, &mut bytes);
+        }
+        let key_at = bytes.len();
+        bytes.push(b'A' + number as u8);
+        add_string(random, &mut bytes);
         let text_at = match random.below(4) {
             0 => whole_at,
             1 => offsets.first().map_or(key_at, |first| first.1),
-            _ => put(&mut bytes, &string(random)),
+            _ => add_string(random, &mut bytes),
         };
         offsets.push((key_at, text_at));
     }
     (bytes, offsets)
 }
 
-fn put(bytes: &mut Vec<u8>, string: &[u8]) -> usize {
+/// Some string with its zero at the end of the bytes, and where it begins.
+fn add_string(random: &mut Random, bytes: &mut Vec<u8>) -> usize {
     let at = bytes.len();
-    bytes.extend(string);
+    add_letters(random, bytes);
     bytes.push(0);
     at
 }
 
-fn string(random: &mut Random) -> Vec<u8> {
+/// The bytes of some string, without its zero.
+fn add_letters(random: &mut Random, bytes: &mut Vec<u8>) {
     let longest = if random.one_in(30) { 120 } else { 8 };
     let length = random.between(0, longest);
-    string_of(random, length)
+    bytes.extend((0..length).map(|_| random.between(1, 255) as u8));
 }
 
 fn string_of(random: &mut Random, length: usize) -> Vec<u8> {
@@ -181,7 +186,10 @@ impl Draft {
     }
 
     pub fn case(&self) -> Case {
-        let mut binaries: Vec<u8> = self.binaries.iter().flat_map(|binary| binary.bytes()).collect();
+        let mut binaries = Vec::new();
+        for binary in &self.binaries {
+            binaries.extend(binary.bytes());
+        }
         binaries.extend(&self.tail);
         binaries.truncate(self.cut.unwrap_or(binaries.len()));
         Case { binaries, zeros: self.zeros }
@@ -244,23 +252,25 @@ pub fn shake(case: &mut Case, random: &mut Random) {
 
 type BinaryAim = Aim<Draft>;
 
-fn read(number: u64, name: &str, make: impl Fn(&mut Draft, &mut Random) + 'static) -> BinaryAim {
-    Aim::new("binaries", number, name, make)
+const CALL: &str = "binaries";
+
+fn read(number: u64, name: &str, make: fn(&mut Draft, &mut Random)) -> BinaryAim {
+    Aim::new(CALL, number, name, make)
 }
 
 /// Damage to some binary.
 fn some(number: u64, name: &str, change: fn(&mut BinaryDraft, &mut Random)) -> BinaryAim {
-    read(number, name, move |draft, random| change(draft.some_binary(random), random))
+    Aim::new(CALL, number, name, move |draft: &mut Draft, random| change(draft.some_binary(random), random))
 }
 
 /// Damage to the last binary.
 fn last(number: u64, name: &str, change: fn(&mut BinaryDraft, &mut Random)) -> BinaryAim {
-    read(number, name, move |draft, random| change(draft.last(random), random))
+    Aim::new(CALL, number, name, move |draft: &mut Draft, random| change(draft.last(random), random))
 }
 
 /// Damage to a binary with this many pairs at least, 1 to 4.
 fn strung(number: u64, name: &str, least: usize, change: fn(&mut BinaryDraft, &mut Random)) -> BinaryAim {
-    read(number, name, move |draft, random| {
+    Aim::new(CALL, number, name, move |draft: &mut Draft, random| {
         let count = random.between(least, 4);
         let mut binary = BinaryDraft::good(random, count);
         change(&mut binary, random);
@@ -285,12 +295,13 @@ fn shape_aims() -> Vec<BinaryAim> {
     vec![
         read(END, "any binaries", |_, _| {}),
         read(END, "no bytes", |draft, _| draft.binaries.clear()),
-        read(END, "64 binaries", |draft, random| *draft = Draft::good(random, 64)),
-        read(MANY, "65 binaries", |draft, random| *draft = Draft::good(random, 65)),
+        read(END, "64 binaries", |draft, random| *draft = Draft::good(random, 64)).large(),
+        read(MANY, "65 binaries", |draft, random| *draft = Draft::good(random, 65)).large(),
         read(MANY, "a byte after the 64th binary", |draft, random| {
             *draft = Draft::good(random, 64);
             draft.tail = random.bytes(1);
-        }),
+        })
+        .large(),
         read(LENGTH, "container 1 above the size limit", |draft, _| {
             draft.zeros = LIMIT + 1 - draft.case().binaries.len()
         }),
@@ -497,7 +508,7 @@ fn string_aims() -> Vec<BinaryAim> {
 /// 17.
 fn image_aims() -> Vec<BinaryAim> {
     let image = |number: u64, name: &str, place: fn(u64, &mut Random) -> (u64, u64)| {
-        read(number, name, move |draft, random| {
+        Aim::new(CALL, number, name, move |draft: &mut Draft, random| {
             let binary = draft.some_binary(random);
             (binary.image_offset, binary.image_size) = place(binary.length(), random);
         })

@@ -101,8 +101,10 @@ pub fn some_case(random: &mut Random) -> Case {
 
 type ContentAim = Aim<Case>;
 
-fn write(number: u64, name: &str, make: impl Fn(&mut Case, &mut Random) + 'static) -> ContentAim {
-    Aim::new("binary writer", number, name, make)
+const CALL: &str = "binary writer";
+
+fn write(number: u64, name: &str, make: fn(&mut Case, &mut Random)) -> ContentAim {
+    Aim::new(CALL, number, name, make)
 }
 
 pub fn aims() -> Vec<ContentAim> {
@@ -131,7 +133,7 @@ fn kind_aims() -> Vec<ContentAim> {
 
 /// Another key or text in some pair.
 fn replaced(number: u64, name: &str, key: bool, string: fn(&mut Random) -> Vec<u8>) -> ContentAim {
-    write(number, name, move |case, random| {
+    Aim::new(CALL, number, name, move |case: &mut Case, random| {
         let string = string(random);
         case.replace(random, &string, key);
         case.room = Room::Exact;
@@ -180,7 +182,7 @@ fn with_zero(random: &mut Random) -> Vec<u8> {
 
 /// Another part for some text, from the length of the string buffer.
 fn text_part(number: u64, name: &str, part: fn(u64, &mut Random) -> (u64, u64)) -> ContentAim {
-    write(number, name, move |case, random| {
+    Aim::new(CALL, number, name, move |case: &mut Case, random| {
         let at = case.some_pair(random);
         let (start, length) = part(case.strings.len() as u64, random);
         case.content.pairs[at].text_start = start;

@@ -1,10 +1,10 @@
 //! Bundles with a device name and a length for the lent output.
 
-use super::ids::{self, IdMaker, BROKEN, EDGES};
+use super::ids::{self, IdMaker, Meaning, BROKEN, EDGES};
 use super::random::Random;
 use super::{Aim, Room, LIMIT};
 use crate::model::bundle::MAGIC_BYTES;
-use crate::model::id::{meaning, Meaning, Sign};
+use crate::model::id::{Sign, Text};
 use crate::model::*;
 use crate::samples;
 
@@ -118,7 +118,8 @@ impl Draft {
 
     pub fn bytes(&self) -> Vec<u8> {
         let table_end = self.table_end();
-        let mut bytes = self.magic.clone();
+        let mut bytes = Vec::with_capacity(table_end as usize + self.body.len());
+        bytes.extend(&self.magic);
         bytes.extend(self.count.to_le_bytes());
         for row in &self.rows {
             let offset = match row.offset {
@@ -169,8 +170,7 @@ impl Draft {
 
     /// An entry at the limits, with this ID as spelled; its meaning is there once.
     fn put_id(&mut self, random: &mut Random, id: Vec<u8>) {
-        let meaning = meaning(&id).expect("an ID that keeps the rules");
-        let at = self.put_meaning(random, meaning);
+        let at = self.put_meaning(random, ids::meaning_of(&id));
         self.rows[at].set_id(id);
     }
 
@@ -186,15 +186,16 @@ impl Draft {
 
 /// 0 to 64 entries, mostly few.
 pub fn some_count(random: &mut Random) -> usize {
-    match random.below(40) {
-        0 => 0,
-        1..=24 => random.between(1, 4),
-        25..=34 => random.between(5, 12),
-        35..=37 => random.between(13, 40),
-        38 => random.between(41, 63),
-        _ => 64,
+    match random.below(80) {
+        0..=1 => 0,
+        2..=61 => random.between(1, 4),
+        62..=77 => random.between(5, 12),
+        _ => random.between(13, 64),
     }
 }
+
+/// How many images of the size limit make an output far above it: above 2^31, above 2^32, and the most there can be.
+pub const FAR_ABOVE: &[usize] = &[3, 5, 64];
 
 /// Starts and sizes of images in a body: packed, in any order, with gaps, shared, overlapping, empty.
 fn spans(random: &mut Random, count: usize, length: usize) -> Vec<(usize, usize)> {
@@ -271,15 +272,15 @@ pub fn aims() -> Vec<Aim<Draft>> {
 
 type BundleAim = Aim<Draft>;
 
-fn check(number: u64, name: &str, make: impl Fn(&mut Draft, &mut Random) + 'static) -> BundleAim {
+fn check(number: u64, name: &str, make: fn(&mut Draft, &mut Random)) -> BundleAim {
     Aim::new("check", number, name, make)
 }
 
-fn pick(number: u64, name: &str, make: impl Fn(&mut Draft, &mut Random) + 'static) -> BundleAim {
+fn pick(number: u64, name: &str, make: fn(&mut Draft, &mut Random)) -> BundleAim {
     Aim::new("pick", number, name, make)
 }
 
-fn normalise(number: u64, name: &str, make: impl Fn(&mut Draft, &mut Random) + 'static) -> BundleAim {
+fn normalise(number: u64, name: &str, make: fn(&mut Draft, &mut Random)) -> BundleAim {
     Aim::new("normalise", number, name, make)
 }
 
@@ -293,8 +294,8 @@ fn shape_aims() -> Vec<BundleAim> {
         }),
         check(OK, "no entries", |draft, random| *draft = Draft::good(random, 0)),
         check(OK, "1 entry", |draft, random| *draft = Draft::good(random, 1)),
-        check(OK, "63 entries", |draft, random| *draft = Draft::good(random, 63)),
-        check(OK, "64 entries", |draft, random| *draft = Draft::good(random, 64)),
+        check(OK, "63 entries", |draft, random| *draft = Draft::good(random, 63)).large(),
+        check(OK, "64 entries", |draft, random| *draft = Draft::good(random, 64)).large(),
         check(OK, "nothing after the table", |draft, _| draft.drop_images()),
         check(OK, "fewer counted than stand there", |draft, random| {
             draft.some_row(random);
@@ -329,7 +330,8 @@ fn head_aims() -> Vec<BundleAim> {
         check(COUNT, "31 bytes", |draft, _| draft.cut = Some(31)),
         check(COUNT, "65 entries", |draft, random| {
             *draft = Draft::good(random, 65);
-        }),
+        })
+        .large(),
         check(COUNT, "count of 65 before fewer entries", |draft, _| draft.count = 65),
         check(COUNT, "count of 2^64 - 1", |draft, _| draft.count = u64::MAX),
         check(COUNT, "count with one high bit more", |draft, random| draft.count ^= 1 << random.between(7, 63)),
@@ -393,7 +395,7 @@ fn table_aims() -> Vec<BundleAim> {
 
 /// Another ID length in some row.
 fn id_length(number: u64, name: &str, length: fn(&Draft, usize, &mut Random) -> u64) -> BundleAim {
-    check(number, name, move |draft, random| {
+    Aim::new("check", number, name, move |draft: &mut Draft, random| {
         let at = draft.some_row(random);
         draft.rows[at].id_length = length(draft, at, random);
     })
@@ -403,14 +405,14 @@ fn id_length(number: u64, name: &str, length: fn(&Draft, usize, &mut Random) -> 
 fn id_aims() -> Vec<BundleAim> {
     let edge = |maker: &IdMaker| {
         let make = maker.make;
-        check(OK, &format!("entry: {}", maker.name), move |draft, random| {
+        Aim::new("check", OK, &format!("entry: {}", maker.name), move |draft: &mut Draft, random| {
             let id = make(random);
             draft.put_id(random, id);
         })
     };
     let broken = |maker: &IdMaker| {
         let make = maker.make;
-        check(ID, &format!("entry: {}", maker.name), move |draft, random| {
+        Aim::new("check", ID, &format!("entry: {}", maker.name), move |draft: &mut Draft, random| {
             let at = draft.some_row(random);
             draft.rows[at].set_id(make(random));
         })
@@ -471,7 +473,7 @@ fn range_aims() -> Vec<BundleAim> {
 
 /// Another offset and size in some row, from the table end and the length.
 fn image(number: u64, name: &str, place: fn(u64, u64, &mut Random) -> (u64, u64)) -> BundleAim {
-    check(number, name, move |draft, random| {
+    Aim::new("check", number, name, move |draft: &mut Draft, random| {
         let at = draft.some_row(random);
         let (offset, size) = place(draft.table_end(), draft.length(), random);
         draft.rows[at].set_image(offset, size);
@@ -499,7 +501,7 @@ fn composition_aims() -> Vec<BundleAim> {
         }),
         check(MIXED, "a feature more", |draft, random| {
             beside(draft, random, |meaning, random| {
-                meaning.features.insert(b"only_here".to_vec(), *random.choose(&[Sign::On, Sign::Off]));
+                meaning.features.insert(b"only_here"[..].into(), *random.choose(&[Sign::On, Sign::Off]));
             })
         }),
         check(MIXED, "a feature less", |draft, random| {
@@ -508,7 +510,7 @@ fn composition_aims() -> Vec<BundleAim> {
         check(MIXED, "another feature", |draft, random| {
             beside(draft, random, |meaning, _| {
                 ids::drop_last_feature(meaning);
-                meaning.features.insert(b"only_here".to_vec(), Sign::On);
+                meaning.features.insert(b"only_here"[..].into(), Sign::On);
             })
         }),
         check(OK, "another sign", |draft, random| {
@@ -519,17 +521,22 @@ fn composition_aims() -> Vec<BundleAim> {
         }),
         check(OK, "hip beside hipv4", |draft, random| {
             beside(draft, random, |meaning, _| {
-                let other: &[u8] = if meaning.kind == b"hip" { b"hipv4" } else { b"hip" };
-                meaning.kind = other.to_vec();
+                meaning.kind = other_hip(meaning);
             })
         }),
         check(OK, "another processor", |draft, random| {
             beside(draft, random, |meaning, random| {
-                meaning.processor.as_mut().expect("a processor").push(*random.choose(b"abc_."));
+                meaning.processor.as_mut().expect("a processor").to_mut().push(*random.choose(b"abc_."));
                 ids::drop_first_feature(meaning);
             })
         }),
     ]
+}
+
+/// `hipv4` beside `hip`, `hip` beside any other kind.
+fn other_hip(meaning: &Meaning) -> Text<'static> {
+    let other: &[u8] = if meaning.kind == &b"hip"[..] { b"hipv4" } else { b"hip" };
+    other.into()
 }
 
 /// Puts an entry with one to four features into the bundle, and beside it what a change makes of it.
@@ -566,7 +573,7 @@ fn device_aims() -> Vec<BundleAim> {
             let device = ids::with_more_features(random, &draft.rows[at].meaning);
             draft.device = ids::spelled(random, &device);
         }),
-        pick(OK, "device: one of 64 entries", |draft, random| *draft = Draft::good(random, 64)),
+        pick(OK, "device: one of 64 entries", |draft, random| *draft = Draft::good(random, 64)).large(),
         pick(NONE, "device: no entries", |draft, random| *draft = Draft::good(random, 0)),
         pick(QUERY, "device: no bytes", |draft, _| draft.device.clear()),
         pick(QUERY, "device: 257 bytes", |draft, random| draft.device = ids::of_length(random, 6, 257)),
@@ -585,13 +592,15 @@ fn device_aims() -> Vec<BundleAim> {
         asks(NONE, "device: a feature less", |device, _| ids::drop_last_feature(device)),
         asks(NONE, "device: no feature", |device, _| device.features.clear()),
         asks(NONE, "device: another kind", |device, _| {
-            device.kind = if device.kind == b"hip" { b"hipv4".to_vec() } else { b"hip".to_vec() };
+            device.kind = other_hip(device);
         }),
-        asks(NONE, "device: another arch", |device, _| device.arch.push(b'x')),
-        asks(NONE, "device: another vendor", |device, _| device.vendor.push(b'x')),
-        asks(NONE, "device: another system", |device, _| device.system.push(b'x')),
-        asks(NONE, "device: another environment", |device, _| device.environment.push(b'x')),
-        asks(NONE, "device: another processor", |device, _| device.processor.as_mut().expect("one").push(b'x')),
+        asks(NONE, "device: another arch", |device, _| device.arch.to_mut().push(b'x')),
+        asks(NONE, "device: another vendor", |device, _| device.vendor.to_mut().push(b'x')),
+        asks(NONE, "device: another system", |device, _| device.system.to_mut().push(b'x')),
+        asks(NONE, "device: another environment", |device, _| device.environment.to_mut().push(b'x')),
+        asks(NONE, "device: another processor", |device, _| {
+            device.processor.as_mut().expect("one").to_mut().push(b'x')
+        }),
         asks(NONE, "device: no processor", |device, _| {
             device.processor = None;
             device.features.clear();
@@ -608,7 +617,7 @@ fn device_aims() -> Vec<BundleAim> {
 
 /// The device name is what a change makes of the meaning of an entry with features.
 fn asks(number: u64, name: &str, change: fn(&mut Meaning, &mut Random)) -> BundleAim {
-    pick(number, name, move |draft, random| {
+    Aim::new("pick", number, name, move |draft: &mut Draft, random| {
         let entry = entry_with_features(random);
         let mut device = entry.clone();
         change(&mut device, random);
@@ -619,7 +628,7 @@ fn asks(number: u64, name: &str, change: fn(&mut Meaning, &mut Random)) -> Bundl
 
 fn device_at_edge(maker: &IdMaker) -> BundleAim {
     let make = maker.make;
-    pick(OK, &format!("device: {}", maker.name), move |draft, random| {
+    Aim::new("pick", OK, &format!("device: {}", maker.name), move |draft: &mut Draft, random| {
         let id = make(random);
         draft.put_id(random, id.clone());
         draft.device = id;
@@ -628,7 +637,9 @@ fn device_at_edge(maker: &IdMaker) -> BundleAim {
 
 fn broken_device(maker: &IdMaker) -> BundleAim {
     let make = maker.make;
-    pick(QUERY, &format!("device: {}", maker.name), move |draft, random| draft.device = make(random))
+    Aim::new("pick", QUERY, &format!("device: {}", maker.name), move |draft: &mut Draft, random| {
+        draft.device = make(random)
+    })
 }
 
 /// 11 and 12.
@@ -639,13 +650,15 @@ fn normal_form_aims() -> Vec<BundleAim> {
         normalise(OK, "64 entries in normal form", |draft, random| {
             *draft = Draft::good(random, 64);
             draft.room = Room::Exact;
-        }),
+        })
+        .large(),
         normalise(ROOM, "room 1 byte short", |draft, _| draft.room = Room::Short(1)),
         normalise(ROOM, "no room", |draft, _| draft.room = Room::Nothing),
         normalise(ROOM, "normal form of the size limit", |draft, random| normal_length(draft, random, LIMIT)),
         normalise(BIG, "normal form 1 above the size limit", |draft, random| normal_length(draft, random, LIMIT + 1)),
         normalise(BIG, "normal form far above the size limit", |draft, random| {
-            *draft = Draft::good(random, 64);
+            let count = *random.choose(FAR_ABOVE);
+            *draft = Draft::good(random, count);
             fill_to(draft, LIMIT);
             let (start, length) = (draft.table_end(), draft.length());
             draft.rows.iter_mut().for_each(|row| row.set_image(start, length - start));

@@ -1,8 +1,11 @@
 //! Entry IDs and device names: meanings, their spellings, the limits, and broken ones.
 
 use super::random::Random;
-use crate::model::id::{canonical, sign_byte, Meaning, Sign};
-use std::collections::{BTreeMap, BTreeSet};
+use crate::model::id::{meaning, same_target, sign_byte, Sign, Text};
+use std::collections::BTreeMap;
+
+/// A meaning with texts of its own.
+pub type Meaning = crate::model::id::Meaning<'static>;
 
 const KINDS: &[&str] = &["host", "hip", "hipv4", "openmp"];
 const ARCHS: &[&str] = &["amdgcn", "amdgcn", "x86_64", "nvptx64", "spirv64", "a", "A", "_", "."];
@@ -18,24 +21,28 @@ const WRONG_KINDS: &[&str] =
 const FIELD_BYTES: &[u8] = b"abcdefghijklmnopqrstuvwxyzABCDEFGHIJKLMNOPQRSTUVWXYZ0123456789_.";
 const NAME_BYTES: &[u8] = b"abcdefghijklmnopqrstuvwxyz0123456789_";
 
-fn word(random: &mut Random, alphabet: &[u8]) -> Vec<u8> {
+fn word(random: &mut Random, alphabet: &[u8]) -> Text<'static> {
     let longest = if random.one_in(12) { 40 } else { 8 };
     let length = random.between(1, longest);
     (0..length).map(|_| *random.choose(alphabet)).collect()
 }
 
-fn field(random: &mut Random, usual: &[&str]) -> Vec<u8> {
+fn choose(random: &mut Random, texts: &[&'static str]) -> Text<'static> {
+    random.choose(texts).as_bytes().into()
+}
+
+fn field(random: &mut Random, usual: &[&'static str]) -> Text<'static> {
     if random.one_in(8) {
         return word(random, FIELD_BYTES);
     }
-    random.choose(usual).as_bytes().to_vec()
+    choose(random, usual)
 }
 
-fn feature_name(random: &mut Random) -> Vec<u8> {
+fn feature_name(random: &mut Random) -> Text<'static> {
     if random.one_in(8) {
         return word(random, NAME_BYTES);
     }
-    random.choose(FEATURES).as_bytes().to_vec()
+    choose(random, FEATURES)
 }
 
 fn sign(random: &mut Random) -> Sign {
@@ -59,7 +66,7 @@ pub fn drop_last_feature(meaning: &mut Meaning) {
     drop_feature(meaning, name);
 }
 
-fn drop_feature(meaning: &mut Meaning, name: Option<Vec<u8>>) {
+fn drop_feature(meaning: &mut Meaning, name: Option<Text<'static>>) {
     meaning.features.remove(&name.expect("a feature"));
 }
 
@@ -67,7 +74,7 @@ fn drop_feature(meaning: &mut Meaning, name: Option<Vec<u8>>) {
 pub fn target(random: &mut Random) -> Meaning {
     let has_processor = !random.one_in(3);
     Meaning {
-        kind: random.choose(KINDS).as_bytes().to_vec(),
+        kind: choose(random, KINDS),
         arch: field(random, ARCHS),
         vendor: field(random, VENDORS),
         system: field(random, SYSTEMS),
@@ -78,17 +85,22 @@ pub fn target(random: &mut Random) -> Meaning {
 }
 
 /// So many different feature names.
-pub fn feature_names(random: &mut Random, count: usize) -> BTreeSet<Vec<u8>> {
-    let mut names = BTreeSet::new();
+pub fn feature_names(random: &mut Random, count: usize) -> Vec<Text<'static>> {
+    let mut names = Vec::new();
     while names.len() < count {
-        names.insert(feature_name(random));
+        let name = feature_name(random);
+        if !names.contains(&name) {
+            names.push(name);
+        }
     }
     names
 }
 
 /// The meaning with these features, each with some sign.
-pub fn with_features(random: &mut Random, mut meaning: Meaning, names: &BTreeSet<Vec<u8>>) -> Meaning {
-    meaning.features = names.iter().map(|name| (name.clone(), sign(random))).collect();
+pub fn with_features(random: &mut Random, mut meaning: Meaning, names: &[Text<'static>]) -> Meaning {
+    for name in names {
+        meaning.features.insert(name.clone(), sign(random));
+    }
     meaning
 }
 
@@ -110,14 +122,37 @@ pub fn some_feature_count(random: &mut Random) -> usize {
     }
 }
 
+/// How long the canonical form is: six fields with five dashes, and each feature with its colon and its sign.
+fn canonical_length(meaning: &Meaning) -> usize {
+    let Meaning { kind, arch, vendor, system, environment, processor, features } = meaning;
+    let fields = kind.len() + arch.len() + vendor.len() + system.len() + environment.len();
+    let processor = processor.as_ref().map_or(0, |name| name.len());
+    fields + processor + 5 + features.keys().map(|name| name.len() + 2).sum::<usize>()
+}
+
 /// Any meaning that keeps the rules.
 pub fn some_meaning(random: &mut Random) -> Meaning {
     loop {
         let count = some_feature_count(random);
         let meaning = if count == 0 { target(random) } else { with_feature_count(random, count) };
-        if canonical(&meaning).len() <= 256 {
+        if canonical_length(&meaning) <= 256 {
             return meaning;
         }
+    }
+}
+
+/// The meaning of an ID, which need not live as long.
+pub fn meaning_of(id: &[u8]) -> Meaning {
+    let owned = |text: Text| Text::Owned(text.into_owned());
+    let meaning = meaning(id).expect("an ID that keeps the rules");
+    Meaning {
+        kind: owned(meaning.kind),
+        arch: owned(meaning.arch),
+        vendor: owned(meaning.vendor),
+        system: owned(meaning.system),
+        environment: owned(meaning.environment),
+        processor: meaning.processor.map(owned),
+        features: meaning.features.into_iter().map(|(name, sign)| (owned(name), sign)).collect(),
     }
 }
 
@@ -132,7 +167,7 @@ pub fn with_more_features(random: &mut Random, meaning: &Meaning) -> Meaning {
             more.features.entry(name).or_insert(sign);
         }
     }
-    if canonical(&more).len() <= 256 {
+    if canonical_length(&more) <= 256 {
         more
     } else {
         meaning.clone()
@@ -141,11 +176,10 @@ pub fn with_more_features(random: &mut Random, meaning: &Meaning) -> Meaning {
 
 /// Meanings that may stand in one bundle, in any order.
 pub fn composed(random: &mut Random, count: usize) -> Vec<Meaning> {
-    let mut meanings = Vec::new();
-    let mut targets = BTreeSet::new();
+    let mut meanings: Vec<Meaning> = Vec::new();
     while meanings.len() < count {
         let target = target(random);
-        if targets.insert(target.clone()) {
+        if !meanings.iter().any(|other| same_target(other, &target)) {
             let most = count - meanings.len();
             meanings.extend(group(random, target, most));
         }
@@ -155,15 +189,15 @@ pub fn composed(random: &mut Random, count: usize) -> Vec<Meaning> {
 }
 
 /// Different meanings of one target that all state the same feature names, `most` at most.
-fn group(random: &mut Random, target: Meaning, most: usize) -> BTreeSet<Meaning> {
-    let mut group = BTreeSet::new();
+fn group(random: &mut Random, target: Meaning, most: usize) -> Vec<Meaning> {
+    let mut group = Vec::new();
     let names_count = if target.processor.is_some() { some_feature_count(random) } else { 0 };
     let names = feature_names(random, names_count);
     let tries = random.between(1, 4).min(most);
     for _ in 0..tries {
         let meaning = with_features(random, target.clone(), &names);
-        if canonical(&meaning).len() <= 256 {
-            group.insert(meaning);
+        if canonical_length(&meaning) <= 256 && !group.contains(&meaning) {
+            group.push(meaning);
         }
     }
     group
@@ -188,14 +222,19 @@ fn field_counts(meaning: &Meaning) -> Vec<usize> {
 }
 
 /// The fields of a meaning, so many of them.
-fn fields_of(meaning: &Meaning, count: usize) -> Vec<Vec<u8>> {
-    let mut fields = vec![meaning.kind.clone(), meaning.arch.clone(), meaning.vendor.clone(), meaning.system.clone()];
-    match (count, &meaning.processor) {
-        (4, _) => {}
-        (5, Some(name)) => fields.push(name.clone()),
-        (5, None) => fields.push(meaning.environment.clone()),
-        (_, name) => fields.extend([meaning.environment.clone(), name.clone().unwrap_or_default()]),
+fn fields_of(meaning: &Meaning, count: usize) -> Vec<Text<'static>> {
+    let mut fields = vec![
+        meaning.kind.clone(),
+        meaning.arch.clone(),
+        meaning.vendor.clone(),
+        meaning.system.clone(),
+        meaning.environment.clone(),
+        meaning.processor.clone().unwrap_or_default(),
+    ];
+    if count == 5 && meaning.processor.is_some() {
+        fields.remove(4);
     }
+    fields.truncate(count);
     fields
 }
 
@@ -208,8 +247,13 @@ fn feature_texts(random: &mut Random, meaning: &Meaning) -> Vec<Vec<u8>> {
 }
 
 /// An ID of these fields and feature pieces.
-fn text(fields: &[Vec<u8>], pieces: &[Vec<u8>]) -> Vec<u8> {
-    let mut text = fields.join(&b'-');
+fn text(fields: &[Text], pieces: &[Vec<u8>]) -> Vec<u8> {
+    let mut text = Vec::with_capacity(256);
+    for field in fields {
+        text.extend(&field[..]);
+        text.push(b'-');
+    }
+    text.pop();
     for piece in pieces {
         text.push(b':');
         text.extend(piece);
@@ -254,9 +298,9 @@ pub const BROKEN: &[IdMaker] = &[
     IdMaker { name: "three fields", make: |random| broken_fields(random, |fields, _| fields.truncate(3)) },
     IdMaker { name: "seven fields", make: seven_fields },
     IdMaker { name: "wrong kind", make: |random| broken_fields(random, wrong_kind) },
-    IdMaker { name: "empty arch", make: |random| broken_fields(random, |fields, _| fields[1].clear()) },
-    IdMaker { name: "empty vendor", make: |random| broken_fields(random, |fields, _| fields[2].clear()) },
-    IdMaker { name: "empty system", make: |random| broken_fields(random, |fields, _| fields[3].clear()) },
+    IdMaker { name: "empty arch", make: |random| broken_fields(random, |fields, _| fields[1] = Text::default()) },
+    IdMaker { name: "empty vendor", make: |random| broken_fields(random, |fields, _| fields[2] = Text::default()) },
+    IdMaker { name: "empty system", make: |random| broken_fields(random, |fields, _| fields[3] = Text::default()) },
     IdMaker { name: "byte that no field has", make: |random| broken_fields(random, wrong_field_byte) },
     IdMaker { name: "no sign", make: |random| broken_piece(random, |_| b"xnack".to_vec()) },
     IdMaker { name: "sign before the name", make: |random| broken_piece(random, |_| b"+xnack".to_vec()) },
@@ -294,9 +338,9 @@ pub fn of_length(random: &mut Random, fields: usize, length: usize) -> Vec<u8> {
 /// Arch, vendor or system, by a number.
 fn random_field(meaning: &mut Meaning, number: usize) -> &mut Vec<u8> {
     match number % 3 {
-        0 => &mut meaning.arch,
-        1 => &mut meaning.vendor,
-        _ => &mut meaning.system,
+        0 => meaning.arch.to_mut(),
+        1 => meaning.vendor.to_mut(),
+        _ => meaning.system.to_mut(),
     }
 }
 
@@ -304,7 +348,7 @@ fn of_features(random: &mut Random, count: usize) -> Vec<u8> {
     loop {
         let meaning = with_feature_count(random, count);
         let id = spelled(random, &meaning);
-        if canonical(&meaning).len() <= 256 {
+        if canonical_length(&meaning) <= 256 {
             return id;
         }
     }
@@ -312,7 +356,7 @@ fn of_features(random: &mut Random, count: usize) -> Vec<u8> {
 
 fn like_a_processor(random: &mut Random) -> Vec<u8> {
     let mut meaning = target(random);
-    meaning.environment = random.choose(&["gfx", "gfxenv", "sm_", "sm_70"]).as_bytes().to_vec();
+    meaning.environment = choose(random, &["gfx", "gfxenv", "sm_", "sm_70"]);
     meaning.processor = None;
     spelled(random, &meaning)
 }
@@ -321,14 +365,14 @@ fn like_a_processor(random: &mut Random) -> Vec<u8> {
 fn short_meaning(random: &mut Random) -> Meaning {
     loop {
         let meaning = some_meaning(random);
-        if canonical(&meaning).len() <= 180 {
+        if canonical_length(&meaning) <= 180 {
             return meaning;
         }
     }
 }
 
 /// The ID of a meaning after damage to its fields.
-fn broken_fields(random: &mut Random, damage: fn(&mut Vec<Vec<u8>>, &mut Random)) -> Vec<u8> {
+fn broken_fields(random: &mut Random, damage: fn(&mut Vec<Text<'static>>, &mut Random)) -> Vec<u8> {
     let meaning = short_meaning(random);
     let counts = field_counts(&meaning);
     let mut fields = fields_of(&meaning, *random.choose(&counts));
@@ -345,8 +389,8 @@ fn seven_fields(random: &mut Random) -> Vec<u8> {
     text(&fields, &pieces)
 }
 
-fn wrong_kind(fields: &mut Vec<Vec<u8>>, random: &mut Random) {
-    fields[0] = random.choose(WRONG_KINDS).as_bytes().to_vec();
+fn wrong_kind(fields: &mut Vec<Text<'static>>, random: &mut Random) {
+    fields[0] = choose(random, WRONG_KINDS);
 }
 
 /// A byte that is not in an alphabet and cuts nothing: its neighbours in ASCII, zero, and bytes above 127 are among them.
@@ -364,10 +408,10 @@ fn put_byte(text: &mut Vec<u8>, byte: u8, random: &mut Random) {
     text.insert(at, byte);
 }
 
-fn wrong_field_byte(fields: &mut Vec<Vec<u8>>, random: &mut Random) {
+fn wrong_field_byte(fields: &mut Vec<Text<'static>>, random: &mut Random) {
     let byte = byte_outside(random, FIELD_BYTES);
     let which = random.between(1, fields.len() - 1);
-    put_byte(&mut fields[which], byte, random);
+    put_byte(fields[which].to_mut(), byte, random);
 }
 
 /// The ID of a meaning with a processor, with one piece put among its features.
@@ -383,7 +427,7 @@ fn broken_piece(random: &mut Random, piece: fn(&mut Random) -> Vec<u8>) -> Vec<u
 }
 
 fn two_signs(random: &mut Random) -> Vec<u8> {
-    let mut piece = feature_name(random);
+    let mut piece = feature_name(random).into_owned();
     let middle = *random.choose(b"+-");
     put_byte(&mut piece, middle, random);
     piece.push(*random.choose(b"+-"));
@@ -391,7 +435,7 @@ fn two_signs(random: &mut Random) -> Vec<u8> {
 }
 
 fn wrong_name(random: &mut Random) -> Vec<u8> {
-    let mut name = feature_name(random);
+    let mut name = feature_name(random).into_owned();
     let byte = byte_outside(random, NAME_BYTES);
     put_byte(&mut name, byte, random);
     name.push(*random.choose(b"+-"));
@@ -417,10 +461,10 @@ fn no_processor(random: &mut Random, fields: usize) -> Vec<u8> {
     let mut meaning = short_meaning(random);
     meaning.processor = None;
     if fields == 4 {
-        meaning.environment.clear();
+        meaning.environment = Text::default();
     }
     if fields == 5 {
-        meaning.environment = random.choose(&["", "gnu", "gf", "sm", "Gfx"]).as_bytes().to_vec();
+        meaning.environment = choose(random, &["", "gnu", "gf", "sm", "Gfx"]);
     }
     meaning.features.clear();
     meaning.features.insert(feature_name(random), sign(random));
@@ -430,7 +474,7 @@ fn no_processor(random: &mut Random, fields: usize) -> Vec<u8> {
 #[cfg(test)]
 mod tests {
     use super::*;
-    use crate::model::id::meaning;
+    use crate::model::id::canonical;
 
     #[test]
     fn spellings_mean_what_they_spell() {
@@ -438,6 +482,7 @@ mod tests {
         for _ in 0..20_000 {
             let expected = some_meaning(&mut random);
             let id = spelled(&mut random, &expected);
+            assert_eq!(canonical_length(&expected), canonical(&expected).len());
             assert_eq!(meaning(&id), Some(expected), "{}", String::from_utf8_lossy(&id));
         }
     }

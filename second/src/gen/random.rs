@@ -22,7 +22,7 @@ impl Random {
     }
 
     pub fn below(&mut self, limit: usize) -> usize {
-        (self.word() % limit as u64) as usize
+        ((self.word() as u128 * limit as u128) >> 64) as usize
     }
 
     /// Both ends can come.
@@ -43,7 +43,12 @@ impl Random {
     }
 
     pub fn bytes(&mut self, length: usize) -> Vec<u8> {
-        (0..length).map(|_| self.byte()).collect()
+        let mut bytes = Vec::with_capacity(length + 8);
+        while bytes.len() < length {
+            bytes.extend(self.word().to_le_bytes());
+        }
+        bytes.truncate(length);
+        bytes
     }
 
     pub fn shuffle<T>(&mut self, list: &mut [T]) {

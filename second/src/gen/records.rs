@@ -1,11 +1,11 @@
 //! Records for the bundle writer, with the two buffers they name parts of.
 
-use super::bundles::some_count;
-use super::ids::{self, IdMaker, BROKEN, EDGES};
+use super::bundles::{some_count, FAR_ABOVE};
+use super::ids::{self, IdMaker, Meaning, BROKEN, EDGES};
 use super::random::Random;
 use super::{Aim, Room, LIMIT};
 use crate::model::bundle_writer::Record;
-use crate::model::id::{Meaning, Sign};
+use crate::model::id::Sign;
 use crate::model::*;
 
 /// What the bundle writer is given: the image buffer is followed by `zeros` zero bytes.
@@ -85,8 +85,10 @@ pub fn some_case(random: &mut Random) -> Case {
 
 type WriterAim = Aim<Case>;
 
-fn write(number: u64, name: &str, make: impl Fn(&mut Case, &mut Random) + 'static) -> WriterAim {
-    Aim::new("bundle writer", number, name, make)
+const CALL: &str = "bundle writer";
+
+fn write(number: u64, name: &str, make: fn(&mut Case, &mut Random)) -> WriterAim {
+    Aim::new(CALL, number, name, make)
 }
 
 pub fn aims() -> Vec<WriterAim> {
@@ -104,11 +106,12 @@ fn count_aims() -> Vec<WriterAim> {
     vec![
         write(OK, "any records", |case, _| case.room = Room::Exact),
         write(OK, "no records", |case, random| with_count(case, random, 0)),
-        write(OK, "64 records", |case, random| with_count(case, random, 64)),
+        write(OK, "64 records", |case, random| with_count(case, random, 64)).large(),
         write(COUNT, "65 records", |case, random| {
             with_count(case, random, 64);
             case.records.push(case.records[0]);
-        }),
+        })
+        .large(),
     ]
 }
 
@@ -119,7 +122,7 @@ fn with_count(case: &mut Case, random: &mut Random, count: usize) {
 
 /// Another ID part in some record, from the length of the ID buffer.
 fn id_part(number: u64, name: &str, part: fn(u64, &Record, &mut Random) -> (u64, u64)) -> WriterAim {
-    write(number, name, move |case, random| {
+    Aim::new(CALL, number, name, move |case: &mut Case, random| {
         let at = case.some_record(random);
         let (start, length) = part(case.ids.len() as u64, &case.records[at], random);
         case.records[at].id_start = start;
@@ -155,7 +158,7 @@ fn id_part_aims() -> Vec<WriterAim> {
 fn id_aims() -> Vec<WriterAim> {
     let put = |number: u64, maker: &IdMaker| {
         let make = maker.make;
-        write(number, &format!("record: {}", maker.name), move |case, random| {
+        Aim::new(CALL, number, &format!("record: {}", maker.name), move |case: &mut Case, random| {
             let id = make(random);
             case.put_id(random, &id);
             case.room = Room::Exact;
@@ -166,7 +169,7 @@ fn id_aims() -> Vec<WriterAim> {
 
 /// Another image part in some record, from the length of the image buffer.
 fn image_part(number: u64, name: &str, part: fn(u64, &mut Random) -> (u64, u64)) -> WriterAim {
-    write(number, name, move |case, random| {
+    Aim::new(CALL, number, name, move |case: &mut Case, random| {
         let at = case.some_record(random);
         let (start, length) = part(case.image_length(), random);
         case.records[at].image_start = start;
@@ -211,7 +214,7 @@ fn composition_aims() -> Vec<WriterAim> {
             let count = random.between(1, 3);
             let meaning = ids::with_feature_count(random, count);
             let mut other = meaning.clone();
-            other.features.insert(b"only_here".to_vec(), Sign::Off);
+            other.features.insert(b"only_here"[..].into(), Sign::Off);
             case.records.truncate(60);
             case.put_meaning(random, &meaning);
             case.put_meaning(random, &other);
@@ -227,7 +230,8 @@ fn output_aims() -> Vec<WriterAim> {
         write(ROOM, "output of the size limit", |case, random| output_length(case, random, LIMIT)),
         write(BIG, "output 1 above the size limit", |case, random| output_length(case, random, LIMIT + 1)),
         write(BIG, "output far above the size limit", |case, random| {
-            *case = Case::good(random, 64);
+            let count = *random.choose(FAR_ABOVE);
+            *case = Case::good(random, count);
             case.zeros = LIMIT;
             let length = case.image_length();
             for record in &mut case.records {

@@ -34,13 +34,16 @@ pub struct Row<'a> {
 /// An entry of an accepted bundle.
 #[derive(Clone, Debug)]
 pub struct Entry<'a> {
-    pub meaning: Meaning,
+    pub meaning: Meaning<'a>,
     pub offset: u64,
     pub image: &'a [u8],
 }
 
+/// What is read of a bundle, which check, pick and normalising start from: its entries, or the refusal 1 to 8.
+pub type Entries<'a> = Result<Vec<Entry<'a>>, Refusal>;
+
 /// 1 to 8, in this order, "each of 4 to 8 .. tried over all entries before the next".
-pub fn entries(bundle: &[u8]) -> Result<Vec<Entry<'_>>, Refusal> {
+pub fn entries(bundle: &[u8]) -> Entries<'_> {
     let length = bundle.len() as u128;
     refuse_if(length > SIZE_LIMIT, LENGTH)?;
     refuse_if(length < 24 || bundle[..24] != MAGIC_BYTES[..], MAGIC)?;
@@ -91,14 +94,19 @@ pub fn composition(meanings: &[Meaning]) -> Result<(), Refusal> {
     refuse_at(meanings.len(), MIXED, |i| meanings[..i].iter().any(|earlier| mixed(earlier, &meanings[i])))
 }
 
-fn entry<'a>(bundle: &'a [u8], meaning: Meaning, row: &Row) -> Entry<'a> {
+fn entry<'a>(bundle: &'a [u8], meaning: Meaning<'a>, row: &Row) -> Entry<'a> {
     let image = part(bundle, row.offset, row.size).expect("an accepted image lies inside");
     Entry { meaning, offset: row.offset, image }
 }
 
 /// The bundle check.
 pub fn check(bundle: &[u8]) -> Checked {
-    match entries(bundle) {
+    check_of(&entries(bundle))
+}
+
+/// What the check returns for a bundle of which this was read.
+pub fn check_of(entries: &Entries) -> Checked {
+    match entries {
         Err(refusal) => Checked { number: refusal.number, place: refusal.place, count: 0 },
         Ok(entries) => Checked { number: OK, place: 0, count: entries.len() as u64 },
     }
@@ -106,7 +114,12 @@ pub fn check(bundle: &[u8]) -> Checked {
 
 /// "A pick checks 1 to 8, then 9, then 10."
 pub fn pick(bundle: &[u8], device: &[u8]) -> Picked {
-    match picked_entry(bundle, device) {
+    pick_of(&entries(bundle), device)
+}
+
+/// What a pick returns for a bundle of which this was read.
+pub fn pick_of(entries: &Entries, device: &[u8]) -> Picked {
+    match picked_entry(entries, device) {
         Err(refusal) => Picked { number: refusal.number, place: refusal.place, ..Picked::default() },
         Ok((index, entry)) => {
             Picked { number: OK, place: 0, index: index as u64, position: entry.offset, size: entry.image.len() as u64 }
@@ -115,25 +128,31 @@ pub fn pick(bundle: &[u8], device: &[u8]) -> Picked {
 }
 
 /// The "one compatible entry" of an accepted bundle, with its index.
-fn picked_entry<'a>(bundle: &'a [u8], device: &[u8]) -> Result<(usize, Entry<'a>), Refusal> {
-    let entries = entries(bundle)?;
+fn picked_entry<'a>(entries: &'a Entries, device: &[u8]) -> Result<(usize, &'a Entry<'a>), Refusal> {
+    let entries = entries.as_ref().map_err(|refusal| *refusal)?;
     let device = meaning(device).ok_or(Refusal { number: QUERY, place: 0 })?;
-    let mut found: Vec<(usize, Entry)> =
-        entries.into_iter().enumerate().filter(|(_, entry)| compatible(&entry.meaning, &device)).collect();
+    let mut found: Vec<(usize, &Entry)> =
+        entries.iter().enumerate().filter(|(_, entry)| compatible(&entry.meaning, &device)).collect();
     assert!(found.len() <= 1, "an accepted bundle has two entries that are compatible with one device name");
     found.pop().ok_or(Refusal { number: NONE, place: 0 })
 }
 
 /// "Normalising checks 1 to 8, 11, 12."
 pub fn normalise(bundle: &[u8], out: &mut [u8]) -> Written {
-    write_or_refuse(normal_form(bundle, out.len()), out)
+    normalise_of(&entries(bundle), out)
+}
+
+/// What normalising does for a bundle of which this was read.
+pub fn normalise_of(entries: &Entries, out: &mut [u8]) -> Written {
+    write_or_refuse(normal_form(entries, out.len()), out)
 }
 
 /// "entries sorted by canonical ID in byte order (a prefix first), each ID canonical, images packed directly after the table in entry
 /// order".
-fn normal_form(bundle: &[u8], room: usize) -> Result<Vec<u8>, Refusal> {
+fn normal_form(entries: &Entries, room: usize) -> Result<Vec<u8>, Refusal> {
+    let entries = entries.as_ref().map_err(|refusal| *refusal)?;
     let mut entries: Vec<(Vec<u8>, &[u8])> =
-        entries(bundle)?.into_iter().map(|entry| (canonical(&entry.meaning), entry.image)).collect();
+        entries.iter().map(|entry| (canonical(&entry.meaning), entry.image)).collect();
     entries.sort_by(|one, other| one.0.cmp(&other.0));
     big_or_room(packed_length(&entries), room)?;
     Ok(packed(&entries))

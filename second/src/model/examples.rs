@@ -8,7 +8,7 @@ use super::id::{canonical, compatible, meaning, Meaning};
 use super::*;
 use crate::gen::examples::*;
 
-fn known(id: &str) -> Meaning {
+fn known(id: &str) -> Meaning<'_> {
     meaning(id.as_bytes()).expect(id)
 }
 
@@ -174,7 +174,7 @@ fn environment_that_begins_like_a_processor() {
     let text = canonical_text("hip-a-b-c-gfxenv-");
     assert_eq!(text, "hip-a-b-c-gfxenv-");
     assert_eq!(known("hip-a-b-c-gfxenv-").processor, None);
-    assert_eq!(known("hip-a-b-c-gfxenv").processor, Some(b"gfxenv".to_vec()));
+    assert_eq!(known("hip-a-b-c-gfxenv").processor, Some(b"gfxenv"[..].into()));
     assert_eq!(canonical_text("hip-a-b-c"), "hip-a-b-c--");
     assert_eq!(canonical_text("hip-a-b-c-"), "hip-a-b-c--");
 }

@@ -1,7 +1,8 @@
 //! "Entry IDs and what they mean".
 
 use super::{FEATURE_LIMIT, ID_LIMIT};
-use std::collections::{BTreeMap, BTreeSet};
+use std::borrow::Cow;
+use std::collections::BTreeMap;
 
 /// "then `+` (on) or `-` (off)".
 #[derive(Clone, Copy, Debug, PartialEq, Eq, PartialOrd, Ord)]
@@ -10,20 +11,23 @@ pub enum Sign {
     Off,
 }
 
+/// Bytes of an ID, or bytes that the generator made up.
+pub type Text<'a> = Cow<'a, [u8]>;
+
 /// "The meaning is kind, the four triple parts, processor, and the set of stated features with their signs."
-#[derive(Clone, Debug, PartialEq, Eq, PartialOrd, Ord)]
-pub struct Meaning {
-    pub kind: Vec<u8>,
-    pub arch: Vec<u8>,
-    pub vendor: Vec<u8>,
-    pub system: Vec<u8>,
-    pub environment: Vec<u8>,
-    pub processor: Option<Vec<u8>>,
-    pub features: BTreeMap<Vec<u8>, Sign>,
+#[derive(Clone, Debug, PartialEq, Eq)]
+pub struct Meaning<'a> {
+    pub kind: Text<'a>,
+    pub arch: Text<'a>,
+    pub vendor: Text<'a>,
+    pub system: Text<'a>,
+    pub environment: Text<'a>,
+    pub processor: Option<Text<'a>>,
+    pub features: BTreeMap<Text<'a>, Sign>,
 }
 
 /// The meaning of an ID, or nothing where it breaks the rules.
-pub fn meaning(id: &[u8]) -> Option<Meaning> {
+pub fn meaning(id: &[u8]) -> Option<Meaning<'_>> {
     if id.is_empty() || id.len() as u64 > ID_LIMIT {
         return None;
     }
@@ -31,12 +35,12 @@ pub fn meaning(id: &[u8]) -> Option<Meaning> {
     let fields: Vec<&[u8]> = before.split(|byte| *byte == b'-').collect();
     let (environment, processor) = environment_and_processor(&fields)?;
     let meaning = Meaning {
-        kind: fields[0].to_vec(),
-        arch: fields[1].to_vec(),
-        vendor: fields[2].to_vec(),
-        system: fields[3].to_vec(),
-        environment: environment.to_vec(),
-        processor: processor.map(|name| name.to_vec()),
+        kind: fields[0].into(),
+        arch: fields[1].into(),
+        vendor: fields[2].into(),
+        system: fields[3].into(),
+        environment: environment.into(),
+        processor: processor.map(|name| name.into()),
         features: features(after)?,
     };
     let keeps_rules = is_kind(&meaning.kind)
@@ -81,11 +85,11 @@ fn is_field_byte(byte: &u8) -> bool {
 }
 
 /// "Each piece after a `:` is a feature". "A name stated twice is refused".
-fn features(text: Option<&[u8]>) -> Option<BTreeMap<Vec<u8>, Sign>> {
+fn features(text: Option<&[u8]>) -> Option<BTreeMap<Text<'_>, Sign>> {
     let mut features = BTreeMap::new();
     for piece in text.into_iter().flat_map(|text| text.split(|byte| *byte == b':')) {
         let (name, sign) = feature(piece)?;
-        if features.insert(name.to_vec(), sign).is_some() {
+        if features.insert(name.into(), sign).is_some() {
             return None;
         }
     }
@@ -120,7 +124,7 @@ pub fn canonical(meaning: &Meaning) -> Vec<u8> {
     let mut text = fields.join(&b'-');
     for (name, sign) in &meaning.features {
         text.push(b':');
-        text.extend(name);
+        text.extend(&name[..]);
         text.push(sign_byte(*sign));
     }
     text
@@ -148,11 +152,8 @@ pub fn compatible(entry: &Meaning, device: &Meaning) -> bool {
     same_target(entry, device) && entry.features.iter().all(|(name, sign)| device.features.get(name) == Some(sign))
 }
 
-/// "Entries with the same kind, triple and processor state the same set of feature names": these two do not.
+/// "Entries with the same kind, triple and processor state the same set of feature names": these two do not. A `BTreeMap` gives its
+/// keys in order, so the sets are the same where the keys are.
 pub fn mixed(one: &Meaning, other: &Meaning) -> bool {
-    same_target(one, other) && feature_names(one) != feature_names(other)
-}
-
-fn feature_names(meaning: &Meaning) -> BTreeSet<&[u8]> {
-    meaning.features.keys().map(|name| name.as_slice()).collect()
+    same_target(one, other) && one.features.keys().ne(other.features.keys())
 }

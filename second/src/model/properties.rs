@@ -2,7 +2,7 @@
 
 use super::binaries::read_all;
 use super::binary_writer::{write_binary, PairParts};
-use super::bundle::{check, entries, normalise, pick, Entry};
+use super::bundle::{check, entries, normalise, pick, pick_of, Checked, Entries, Entry};
 use super::bundle_writer::write_bundle;
 use super::id::{canonical, compatible, meaning, mixed};
 use super::*;
@@ -32,8 +32,8 @@ fn normal_form(bundle: &[u8]) -> Vec<u8> {
 }
 
 /// The bytes that a pick gives, or its number.
-fn picked_bytes<'a>(bundle: &'a [u8], device: &[u8]) -> Result<&'a [u8], u64> {
-    let picked = pick(bundle, device);
+fn picked_bytes<'a>(bundle: &'a [u8], entries: &Entries, device: &[u8]) -> Result<&'a [u8], u64> {
+    let picked = pick_of(entries, device);
     if picked.number != OK {
         return Err(picked.number);
     }
@@ -72,6 +72,16 @@ fn a_device_gets_at_most_one_of_two_that_may_stand_together() {
 }
 
 #[test]
+fn every_count_of_entries_is_accepted() {
+    for count in 0..=64 {
+        for case in 0..10 {
+            let draft = Draft::good(&mut Random::of_case(count, case), count as usize);
+            assert_eq!(check(&draft.bytes()), Checked { number: OK, place: 0, count });
+        }
+    }
+}
+
+#[test]
 fn normal_form_is_accepted_and_its_own() {
     each_case(|random| {
         let draft = some_bundle(random);
@@ -87,12 +97,15 @@ fn normal_form_gives_the_same_picks() {
     each_case(|random| {
         let draft = some_bundle(random);
         let (bundle, normal) = (draft.bytes(), normal_form(&draft.bytes()));
+        let (entries, normal_entries) = (entries(&bundle), entries(&normal));
+        let same_pick = |device: &[u8]| {
+            assert_eq!(picked_bytes(&bundle, &entries, device), picked_bytes(&normal, &normal_entries, device));
+        };
         for row in &draft.rows {
             let device = ids::with_more_features(random, &row.meaning);
-            let device = ids::spelled(random, &device);
-            assert_eq!(picked_bytes(&bundle, &device), picked_bytes(&normal, &device));
+            same_pick(&ids::spelled(random, &device));
         }
-        assert_eq!(picked_bytes(&bundle, &draft.device), picked_bytes(&normal, &draft.device));
+        same_pick(&draft.device);
     });
 }
 
