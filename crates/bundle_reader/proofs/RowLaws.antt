@@ -32,6 +32,9 @@ module _ (s : List ℕ) (i at : ℕ) (e : at ≡ rowStart s i) where
   unfolding rowStart
   next-start = ap (λ z. z + 24 + word 8 s (z + 16)) e ∙ rw add-one
 
+  pub row-here : RowFits s (rowStart s i) → RowFits s at
+  row-here f = rw e f
+
   -- the rows before it are not bad
   module _ (passed : (k : ℕ) → k < i → badRow s (rowStart s k) ≡ false) where
     pub tabled-bad : (n end : ℕ) (b : Bool) → i < n → b ≡ badRow s at → b ≡ true → Tabled s n i end

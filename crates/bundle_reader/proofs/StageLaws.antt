@@ -292,12 +292,6 @@ module _ (R : IdRules) (L : Lawful R) (s texts₀ lens₀ texts lens : List ℕ)
       held = forms-held;
     }
 
-pub examination-of : (R : IdRules) → Lawful R → (s texts₀ lens₀ keys₀ texts lens keys : List ℕ) (c : Checked)
-    → (c ≡ check R s) × Formed R (row s) (formsOf R s) texts₀ lens₀ keys₀ texts lens keys → (count s ≤ 64 → Room (count s) texts₀ lens₀ keys₀)
-    → Examination R s texts lens (c .number) (c .place) (c .count) (rowsIn s (c .count))
-examination-of R L s texts₀ lens₀ keys₀ texts lens keys c f room =
-    examination R L s texts₀ lens₀ texts lens (with-rows R s c (f .0)) (examined-is R s c (f .0)) (f .1 .texts-are) (f .1 .lens-are) (λ h. (room h .texts-room, room h .lens-room))
-
 -- what `examine` promises, in these words
 pub examine-says : (R : IdRules) → Lawful R → (s texts₀ lens₀ texts lens : List ℕ) (e : Examined)
     → (e ≡ examined R s) × ((texts ≡ slots texts₀ (formsOf R s) (form R (row s))) × ((lens ≡ filled lens₀ (formsOf R s) (formLength R (row s))) × ((length texts₀ ≡ 16384) × (length lens₀ ≡ 64))))

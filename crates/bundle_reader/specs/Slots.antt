@@ -12,8 +12,9 @@ use Rattle.entry_id.specs.Canonical.{headKey}
 use Rattle.entry_id.specs.IdRules.{IdRules}
 use Rattle.bundle.specs.Table.{Row, count, rowStart, row}
 use Rattle.bundle.specs.Check.{badRow, badId, outside, unrefused, bundleStop}
-use Rattle.bundle.specs.Accepted.{RowFits}
+use Rattle.bundle.specs.Accepted.{RowFits, Accepted}
 use Rattle.bundle.specs.Records.{noRecord, rowsOf}
+use Rattle.bundle.specs.declared.Checked.{Checked}
 use Rattle.bundle.specs.declared.EntryRecord.{EntryRecord}
 use Rattle.canonical_form.specs.declared.Relation.{Relation}
 use Rattle.bundle_reader.specs.Examined.{filled, slots, text, form, formLength, rowsIn}
@@ -107,6 +108,18 @@ abbrev pub relations : IdRules → List ℕ → List ℕ → Relation
 relations R a b = record { same = relation R true a b; mixed = relation R false a b }
 
 -- ---- what is left of it
+
+-- an accepted bundle of n entries, with its canonical IDs in their slots
+pub record Pickable (R : IdRules) (s texts lens keys : List ℕ) (n : ℕ) : Type 0 where
+  pub sound : Accepted R s
+  pub count-is : n ≡ count s
+  pub held : (k : ℕ) → k < n → Held R (row s) texts lens k
+  pub texts-are : Texts R texts lens keys n
+
+-- a bundle that was checked; where nothing refuses it, that
+pub record Known (R : IdRules) (s texts lens keys : List ℕ) (c : Checked) : Type 0 where
+  pub stop-is : stop (c .number) (c .place) ≡ bundleStop R s
+  pub pickable : c .number ≡ 0 → Pickable R s texts lens keys (c .count)
 
 -- what refuses n rows; where nothing does, their canonical IDs
 pub record Judged (R : IdRules) (t : Stop) (rows : ℕ → Row) (n : ℕ) (texts lens : List ℕ) (number place : ℕ) : Type 0 where

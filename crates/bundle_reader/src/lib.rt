@@ -1,6 +1,7 @@
 // The check of a bundle, and the pick of the image for a device name.
 ghost use mathlib.Core.Path.{_≡_};
 ghost use mathlib.Core.Bool.{true, false};
+ghost use mathlib.Core.List.{List};
 ghost use Prim.Native.Nat.{ℕ, _+_, _*_, _-_, _<_, _≤_};
 ghost use lib.ListN.{length, getD, take, drop, replicate};
 ghost use Rattle.wire.specs.Bytes.{same, overwrite};
@@ -16,7 +17,7 @@ ghost use Rattle.bundle.specs.Theorems.{refusal};
 ghost use Rattle.bundle.specs.Records.{noRecord, recordAt, rowOf, rowsOf, badPart};
 ghost use Rattle.canonical_form.specs.Made.{formOf};
 ghost use Rattle.bundle_reader.specs.Examined.{filled, slots, text, form, formLength, heldRow, rowsIn, examined, formsOf, examinedRecords, formsOfRecords};
-ghost use Rattle.bundle_reader.specs.Slots.{Tabled, firstMore, IdsIn, Room, Formed, Placed, Canonical, Texts, near, relation, relations};
+ghost use Rattle.bundle_reader.specs.Slots.{Tabled, firstMore, IdsIn, Room, Formed, Placed, Canonical, Texts, Pickable, Known, near, relation, relations};
 use bundle::Checked;
 use bundle::EntryRecord;
 use bundle::Picked;
@@ -588,34 +589,38 @@ fn no_image(number: usize, place: usize) -> Picked
     }
 }
 
-fn pick_in(
-    s: &[u8],
-    device: &[u8],
-    texts: &mut [u8],
-    lens: &mut [usize],
-    keys: &mut [u64],
-    name: &mut [u8],
-) -> Picked
-    requires { ⌜ (count (now s) ≤ 64 → Room (count (now s)) (now texts) (now lens) (now keys)) × (length (now name) ≡ 256) ⌝ }
-    ensures { λ r. ⌜ r ≡ pick idRules (now (s .entry)) (now (device .entry)) ⌝ }
+// Row i of a table in which no row up to it is bad. On the way only lengths are read.
+fn row_of(s: &[u8], i: usize) -> EntryRecord
+    requires { ⌜ ((k : ℕ) → k ≤ i → RowFits (now s) (rowStart (now s) k)) ⌝ }
+    ensures { λ r. ⌜ r ≡ heldRow (now (s .entry)) (rowStart (now (s .entry)) i) ⌝ }
 {
-    let c = check_in(s, texts, lens, keys);
-    let number = c.number;
-    if 0 < number {
-        return no_image(number, c.place);
+    let mut k: usize = 0;
+    let mut at: usize = 32;
+    while k < i {
+        at = at + 24 + wire_read::word8_at(s, at + 16) as usize;
+        k += 1;
     }
-    let made = canonical_form::canonical(device, name);
-    let len = made.length;
-    if len == 0 {
-        return no_image(9, 0);
-    }
-    let n = c.count;
-    let i = first_compatible(texts, lens, keys, n, &name[..len], made.key);
+    row_at(s, at)
+}
+
+// The pick from an accepted bundle of n entries by a canonical device name, which has the number `key`.
+fn pick_named(
+    s: &[u8],
+    texts: &[u8],
+    lens: &[usize],
+    keys: &[u64],
+    n: usize,
+    name: &[u8],
+    key: u64,
+) -> Picked
+    requires { ⌜ Pickable idRules (now s) (now texts) (now lens) (now keys) n × Canonical idRules (now name) × (key ≡ headKey (now name)) ⌝ }
+    ensures { λ r. ⌜ ((device : List ℕ) → now (name .entry) ≡ idRules .canon device → r ≡ pick idRules (now (s .entry)) device) ⌝ }
+{
+    let i = first_compatible(texts, lens, keys, n, name, key);
     if n <= i {
         return no_image(10, 0);
     }
-    let rows = read_table(s, n);
-    let row = rows[i];
+    let row = row_of(s, i);
     Picked {
         number: 0,
         place: 0,
@@ -625,26 +630,59 @@ fn pick_in(
     }
 }
 
-// The pick of an image from a bundle by a device name. Few entries need little scratch.
+// The pick from a bundle that was checked.
+fn pick_checked(
+    c: Checked,
+    s: &[u8],
+    device: &[u8],
+    texts: &[u8],
+    lens: &[usize],
+    keys: &[u64],
+) -> Picked
+    requires { ⌜ Known idRules (now s) (now texts) (now lens) (now keys) c ⌝ }
+    ensures { λ r. ⌜ r ≡ pick idRules (now (s .entry)) (now (device .entry)) ⌝ }
+{
+    let number = c.number;
+    if 0 < number {
+        return no_image(number, c.place);
+    }
+    let mut name = [0u8; 256];
+    let made = canonical_form::canonical(device, &mut name);
+    let len = made.length;
+    if len == 0 {
+        return no_image(9, 0);
+    }
+    pick_named(s, texts, lens, keys, c.count, &name[..len], made.key)
+}
+
+// The pick from a bundle of few entries, which needs little scratch.
+fn pick_few(bundle: &[u8], device: &[u8]) -> Picked
+    requires { ⌜ count (now bundle) ≤ 8 ⌝ }
+    ensures { λ r. ⌜ r ≡ pick idRules (now (bundle .entry)) (now (device .entry)) ⌝ }
+{
+    let mut texts = [0u8; 2048];
+    let mut lens = [0usize; 8];
+    let mut keys = [0u64; 8];
+    let c = check_in(bundle, &mut texts, &mut lens, &mut keys);
+    pick_checked(c, bundle, device, &texts, &lens, &keys)
+}
+
+fn pick_many(bundle: &[u8], device: &[u8]) -> Picked
+    ensures { λ r. ⌜ r ≡ pick idRules (now (bundle .entry)) (now (device .entry)) ⌝ }
+{
+    let mut texts = [0u8; 16384];
+    let mut lens = [0usize; 64];
+    let mut keys = [0u64; 64];
+    let c = check_in(bundle, &mut texts, &mut lens, &mut keys);
+    pick_checked(c, bundle, device, &texts, &lens, &keys)
+}
+
+// The pick of an image from a bundle by a device name.
 pub fn pick(bundle: &[u8], device: &[u8]) -> Picked
     ensures { λ r. ⌜ r ≡ pick idRules (now (bundle .entry)) (now (device .entry)) ⌝ }
 {
-    let mut name = [0u8; 256];
     if wire_read::word8_at(bundle, 24) <= 8 {
-        let mut few = [0u8; 2048];
-        let mut few_lens = [0usize; 8];
-        let mut few_keys = [0u64; 8];
-        return pick_in(
-            bundle,
-            device,
-            &mut few,
-            &mut few_lens,
-            &mut few_keys,
-            &mut name,
-        );
+        return pick_few(bundle, device);
     }
-    let mut lens = [0usize; 64];
-    let mut keys = [0u64; 64];
-    let mut texts = [0u8; 16384];
-    pick_in(bundle, device, &mut texts, &mut lens, &mut keys, &mut name)
+    pick_many(bundle, device)
 }
