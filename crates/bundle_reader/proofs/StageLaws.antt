@@ -39,6 +39,9 @@ found-at k n p r rest e h = rw (stopAt-found (suc k) n p r e h) (sym (⨾-stop (
 pub past : (k n : ℕ) (p : ℕ → Bool) (r : ℕ) (rest t : Stop) → r ≡ first n p → n ≤ r → t ≡ rest → t ≡ stopAt k n p ⨾ rest
 past k n p r rest t e h q = rw (stopAt-clear k n p r e h) (q ∙ sym (⨾-go rest))
 
+pub no-number : (k : ℕ) → k ≤ 0 → k ≡ 0
+no-number k h = omega arith
+
 pub ⨾-assoc : (a b c : Stop) → (a ⨾ b) ⨾ c ≡ a ⨾ b ⨾ c
 ⨾-assoc a b c = cases (a .number) refl
   where
@@ -137,9 +140,9 @@ module _ (R : IdRules) (rows : ℕ → Row) (end len i out : ℕ) (texts₀ lens
         (at-5 R rows n end len i b h, formed-is R rows i _ texts₀ lens₀ keys₀ after lens keys b (formed-bad R rows i texts₀ lens₀ keys₀ texts lens keys (st .formed) _ after made id-is q w y))
 
 -- past its last row
-module _ (R : IdRules) (L : Lawful R) (rows : ℕ → Row) (end len n i out : ℕ) (texts₀ lens₀ keys₀ texts lens keys : List ℕ) (st : Staged R rows end len i out texts₀ lens₀ keys₀ texts lens keys) (z : i ≡ n) (room : Room n texts₀ lens₀ keys₀) where
+module _ (R : IdRules) (L : Lawful R) (rows : ℕ → Row) (end len n i out : ℕ) (texts₀ lens₀ keys₀ texts lens keys : List ℕ) (st : Staged R rows end len i out texts₀ lens₀ keys₀ texts lens keys) (below : i ≤ n) (past : n ≤ i) (room : Room n texts₀ lens₀ keys₀) where
   whole : Staged R rows end len n out texts₀ lens₀ keys₀ texts lens keys
-  whole = subst (λ k. Staged R rows end len k out texts₀ lens₀ keys₀ texts lens keys) z st
+  whole = subst (λ k. Staged R rows end len k out texts₀ lens₀ keys₀ texts lens keys) (omega arith) st
 
   pub staged-texts : Texts R texts lens keys n
   staged-texts = formed-texts R L rows n texts₀ lens₀ keys₀ texts lens keys room (whole .formed) (whole .named)

@@ -10,7 +10,7 @@ use Rattle.bundle.specs.Records.{rowOf}
 use Rattle.bundle_reader.specs.Slots.{Staged}
 use Rattle.bundle_reader.proofs.RowLaws.{row-here, row-inside, row-next, row-is}
 use Rattle.bundle_reader.proofs.SlotLaws.{formed-lengths}
-use Rattle.bundle_reader.proofs.StageLaws.{passed-room, refused-is, checked-is, formed-none, formed-is, staged-none, staged-room, staged-more, staged-bad, staged-texts, staged-rest}
+use Rattle.bundle_reader.proofs.StageLaws.{no-number, passed-room, refused-is, checked-is, formed-none, formed-is, staged-none, staged-room, staged-more, staged-bad, staged-texts, staged-rest}
 use Rattle.bundle_reader.proofs.check_in.Statement.{statement}
 use Rattle.bundle_reader.proofs.check_in.Tie as tie
 
@@ -36,18 +36,18 @@ loop-holds c = (omega arith, refl, staged-none idRules _ _ _ _ _ _)
 
 row-at-requires : tie.Need-row-at-requires Inv-loop μ-loop
 row-at-requires c κs = let l = c .before .loop in
-    let p = c .before .before .before .frame .ensures .passes (omega arith) in
-    row-here _ (l .i) (l .at) (l .inv .1) (p .fits (l .i) (omega arith))
+    let p = c .before .before .before .frame .ensures .passes (no-number _ (c .before .before .if1 .left)) in
+    row-here _ (l .i) (l .at) (l .inv .1) (p .fits (l .i) (c .loop-test .taken))
 
 add-at : tie.Need-add-at Inv-loop μ-loop
 add-at c = let l = c .before .before .before .loop in
-    let p = c .before .before .before .before .before .frame .ensures .passes (omega arith) in
-    omega (arith, row-inside _ (l .at) (c .before .row-at .result) (c .before .row-at .ensures) (row-here _ (l .i) (l .at) (l .inv .1) (p .fits (l .i) (omega arith))))
+    let p = c .before .before .before .before .before .frame .ensures .passes (no-number _ (c .before .before .before .before .if1 .left)) in
+    omega (arith, row-inside _ (l .at) (c .before .row-at .result) (c .before .row-at .ensures) (row-here _ (l .i) (l .at) (l .inv .1) (p .fits (l .i) (c .before .before .loop-test .taken))))
 
 canonical-at-requires : tie.Need-canonical-at-requires Inv-loop μ-loop
 canonical-at-requires c κs = let l = c .before .before .before .before .loop in
-    let p = c .before .before .before .before .before .before .frame .ensures .passes (omega arith) in
-    (row-inside _ (l .at) (c .before .before .row-at .result) (c .before .before .row-at .ensures) (row-here _ (l .i) (l .at) (l .inv .1) (p .fits (l .i) (omega arith))), omega (arith, staged-room idRules _ _ _ (l .i) (l .out) _ _ _ (l .texts) (l .lens) (l .keys) (l .inv .2) _ (omega arith) (passed-room idRules _ _ _ p _ _ _ (c .before .before .before .before .before .before .before .before .before .before .before .pre)) .texts-room))
+    let p = c .before .before .before .before .before .before .frame .ensures .passes (no-number _ (c .before .before .before .before .before .if1 .left)) in
+    (row-inside _ (l .at) (c .before .before .row-at .result) (c .before .before .row-at .ensures) (row-here _ (l .i) (l .at) (l .inv .1) (p .fits (l .i) (c .before .before .before .loop-test .taken))), omega (arith, staged-room idRules _ _ _ (l .i) (l .out) _ _ _ (l .texts) (l .lens) (l .keys) (l .inv .2) _ (c .before .before .before .loop-test .taken) (passed-room idRules _ _ _ p _ _ _ (c .before .before .before .before .before .before .before .before .before .before .before .pre)) .texts-room))
 
 not-checked-requires-2 : tie.Need-not-checked-requires-2 Inv-loop μ-loop
 not-checked-requires-2 c κs = search needs
@@ -67,36 +67,36 @@ same-length-3 c = let l = c .before .before .before .before .before .before .bef
 returns-2 : tie.Need-returns-2 Inv-loop μ-loop
 unfolding rowOf
 returns-2 c = let l = c .before .before .before .before .before .before .before .before .before .loop in
-    let p = c .before .before .before .before .before .before .before .before .before .before .before .frame .ensures .passes (omega arith) in
+    let p = c .before .before .before .before .before .before .before .before .before .before .before .frame .ensures .passes (no-number _ (c .before .before .before .before .before .before .before .before .before .before .if1 .left)) in
     let s = c .before .before .before .before .before .before .before .before .before .before .before .before .before .before .before .before .args .s .now in
     let r = c .before .before .before .before .before .before .before .row-at in
     let m = c .before .before .before .before .canonical-at in
-    let b = staged-bad idRules (row s) _ (length s) (l .i) (l .out) _ _ _ (l .texts) (l .lens) (l .keys) (l .inv .2) s (r .result) (row-is s (l .i) (l .at) (l .inv .1) (r .result) (r .ensures)) (m .last .1 .1 .1 .0) (m .result) (m .ensures .0) (m .ensures .1) (c .before .before .before .before .before .before .before .before .before .before .before .frame .result .count) (omega arith) (c .before .if2 .taken) in
+    let b = staged-bad idRules (row s) _ (length s) (l .i) (l .out) _ _ _ (l .texts) (l .lens) (l .keys) (l .inv .2) s (r .result) (row-is s (l .i) (l .at) (l .inv .1) (r .result) (r .ensures)) (m .last .1 .1 .1 .0) (m .result) (m .ensures .0) (m .ensures .1) (c .before .before .before .before .before .before .before .before .before .before .before .frame .result .count) (c .before .before .before .before .before .before .before .before .loop-test .taken) (c .before .if2 .taken) in
     (c .not-checked2 .ensures ∙ refused-is idRules _ 5 _ (b .0 ∙ p .rest) (omega arith), formed-is idRules _ _ _ _ _ _ _ _ _ (p .forms) (b .1))
 
 mul-lens : tie.Need-mul-lens Inv-loop μ-loop
 mul-lens c = let l = c .before .before .before .before .before .before .before .before .loop in
-    let p = c .before .before .before .before .before .before .before .before .before .before .frame .ensures .passes (omega arith) in
+    let p = c .before .before .before .before .before .before .before .before .before .before .frame .ensures .passes (no-number _ (c .before .before .before .before .before .before .before .before .before .if1 .left)) in
     omega (arith, p .few)
 
 slice-write-lens : tie.Need-slice-write-lens Inv-loop μ-loop
 slice-write-lens c = let l = c .before .before .before .before .before .before .before .before .loop in
-    let p = c .before .before .before .before .before .before .before .before .before .before .frame .ensures .passes (omega arith) in
-    omega (arith, staged-room idRules _ _ _ (l .i) (l .out) _ _ _ (l .texts) (l .lens) (l .keys) (l .inv .2) _ (omega arith) (passed-room idRules _ _ _ p _ _ _ (c .before .before .before .before .before .before .before .before .before .before .before .before .before .before .before .pre)) .lens-room)
+    let p = c .before .before .before .before .before .before .before .before .before .before .frame .ensures .passes (no-number _ (c .before .before .before .before .before .before .before .before .before .if1 .left)) in
+    omega (arith, staged-room idRules _ _ _ (l .i) (l .out) _ _ _ (l .texts) (l .lens) (l .keys) (l .inv .2) _ (c .before .before .before .before .before .before .before .loop-test .taken) (passed-room idRules _ _ _ p _ _ _ (c .before .before .before .before .before .before .before .before .before .before .before .before .before .before .before .pre)) .lens-room)
 
 mul-keys : tie.Need-mul-keys Inv-loop μ-loop
 mul-keys c = let l = c .before .before .before .before .before .before .before .before .loop in
-    let p = c .before .before .before .before .before .before .before .before .before .before .frame .ensures .passes (omega arith) in
+    let p = c .before .before .before .before .before .before .before .before .before .before .frame .ensures .passes (no-number _ (c .before .before .before .before .before .before .before .before .before .if1 .left)) in
     omega (arith, p .few)
 
 slice-write-keys : tie.Need-slice-write-keys Inv-loop μ-loop
 slice-write-keys c = let l = c .before .before .before .before .before .before .before .before .loop in
-    let p = c .before .before .before .before .before .before .before .before .before .before .frame .ensures .passes (omega arith) in
-    omega (arith, staged-room idRules _ _ _ (l .i) (l .out) _ _ _ (l .texts) (l .lens) (l .keys) (l .inv .2) _ (omega arith) (passed-room idRules _ _ _ p _ _ _ (c .before .before .before .before .before .before .before .before .before .before .before .before .before .before .before .pre)) .keys-room)
+    let p = c .before .before .before .before .before .before .before .before .before .before .frame .ensures .passes (no-number _ (c .before .before .before .before .before .before .before .before .before .if1 .left)) in
+    omega (arith, staged-room idRules _ _ _ (l .i) (l .out) _ _ _ (l .texts) (l .lens) (l .keys) (l .inv .2) _ (c .before .before .before .before .before .before .before .loop-test .taken) (passed-room idRules _ _ _ p _ _ _ (c .before .before .before .before .before .before .before .before .before .before .before .before .before .before .before .pre)) .keys-room)
 
 first-outside-requires : tie.Need-first-outside-requires Inv-loop μ-loop
 first-outside-requires c κs = let l = c .before .before .before .before .before .before .before .before .loop in
-    let p = c .before .before .before .before .before .before .before .before .before .before .frame .ensures .passes (omega arith) in
+    let p = c .before .before .before .before .before .before .before .before .before .before .frame .ensures .passes (no-number _ (c .before .before .before .before .before .before .before .before .before .if1 .left)) in
     omega (arith, p .few)
 
 add-i : tie.Need-add-i Inv-loop μ-loop
@@ -118,8 +118,8 @@ loop-again c = let l = c .before .before .before .before .before .before .before
 
 compare-requires : tie.Need-compare-requires Inv-loop μ-loop
 compare-requires c κs = let l = c .before .before .before .before .loop in
-    let p = c .before .before .before .before .before .before .frame .ensures .passes (omega arith) in
-    (staged-texts idRules idRules-lawful _ _ _ _ (l .i) (l .out) _ _ _ (l .texts) (l .lens) (l .keys) (l .inv .2) (omega arith) (passed-room idRules _ _ _ p _ _ _ (c .before .before .before .before .before .before .before .before .before .before .before .pre)), p .few)
+    let p = c .before .before .before .before .before .before .frame .ensures .passes (no-number _ (c .before .before .before .before .before .if1 .left)) in
+    (staged-texts idRules idRules-lawful _ _ _ _ (l .i) (l .out) _ _ _ (l .texts) (l .lens) (l .keys) (l .inv .2) (l .inv .0) (c .before .before .before .loop-test .left) (passed-room idRules _ _ _ p _ _ _ (c .before .before .before .before .before .before .before .before .before .before .before .pre)), p .few)
 
 checked-requires : tie.Need-checked-requires Inv-loop μ-loop
 checked-requires c κs = search needs
@@ -138,8 +138,8 @@ same-length-6 c = let l = c .before .before .before .before .before .before .loo
 
 returns-3 : tie.Need-returns-3 Inv-loop μ-loop
 returns-3 c = let l = c .before .before .before .before .before .before .loop in
-    let p = c .before .before .before .before .before .before .before .before .frame .ensures .passes (omega arith) in
-    let b = staged-rest idRules idRules-lawful _ _ _ _ (l .i) (l .out) _ _ _ (l .texts) (l .lens) (l .keys) (l .inv .2) (omega arith) (passed-room idRules _ _ _ p _ _ _ (c .before .before .before .before .before .before .before .before .before .before .before .before .before .pre)) _ _ (c .before .compare .ensures) in
+    let p = c .before .before .before .before .before .before .before .before .frame .ensures .passes (no-number _ (c .before .before .before .before .before .before .before .if1 .left)) in
+    let b = staged-rest idRules idRules-lawful _ _ _ _ (l .i) (l .out) _ _ _ (l .texts) (l .lens) (l .keys) (l .inv .2) (l .inv .0) (c .before .before .before .before .before .loop-test .left) (passed-room idRules _ _ _ p _ _ _ (c .before .before .before .before .before .before .before .before .before .before .before .before .before .pre)) _ _ (c .before .compare .ensures) in
     (c .checked .ensures ∙ checked-is idRules _ _ _ (b .0 ∙ p .rest) _ (p .count-is), formed-is idRules _ _ _ _ _ _ _ _ _ (p .forms) (b .1))
 
 pub check-in-spec : {M : Type 1} → statement M

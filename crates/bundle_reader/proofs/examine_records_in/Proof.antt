@@ -9,7 +9,7 @@ use Rattle.bundle.specs.Records.{noRecord, recordAt, rowOf, rowsOf}
 use Rattle.bundle_reader.specs.Slots.{Staged}
 use Rattle.bundle_reader.proofs.RecordLaws.{records-refused, refused-forms, records-few, records-in, records-rest, rest-forms}
 use Rattle.bundle_reader.proofs.SlotLaws.{room-less, formed-lengths}
-use Rattle.bundle_reader.proofs.StageLaws.{formed-none, formed-is, staged-none, staged-room, staged-more, staged-bad, staged-texts, staged-rest}
+use Rattle.bundle_reader.proofs.StageLaws.{no-number, formed-none, formed-is, staged-none, staged-room, staged-more, staged-bad, staged-texts, staged-rest}
 use Rattle.bundle_reader.proofs.examine_records_in.Statement.{statement}
 use Rattle.bundle_reader.proofs.examine_records_in.Tie as tie
 
@@ -34,14 +34,14 @@ mul-row c = let l = c .before .loop in
     let k = c .before .before .before .bad-parts in
     let a = c .before .before .before .before .before .before .before .before .args in
     let ids = a .ids .now in
-    omega (arith, records-few idRules ids 0 (a .n) (a .t2) (k .result .number) (k .result .place) (k .ensures) (omega arith))
+    omega (arith, records-few idRules ids 0 (a .n) (a .t2) (k .result .number) (k .result .place) (k .ensures) (no-number _ (c .before .before .if1 .left)))
 
 array-copy-out-row : tie.Need-array-copy-out-row Inv-loop μ-loop
 array-copy-out-row c = let l = c .before .loop in
     let k = c .before .before .before .bad-parts in
     let a = c .before .before .before .before .before .before .before .before .args in
     let ids = a .ids .now in
-    omega (arith, records-few idRules ids 0 (a .n) (a .t2) (k .result .number) (k .result .place) (k .ensures) (omega arith))
+    omega (arith, records-few idRules ids 0 (a .n) (a .t2) (k .result .number) (k .result .place) (k .ensures) (no-number _ (c .before .before .if1 .left)))
 
 canonical-at-requires : tie.Need-canonical-at-requires Inv-loop μ-loop
 unfolding recordAt
@@ -49,7 +49,7 @@ canonical-at-requires c κs = let l = c .before .before .before .loop in
     let k = c .before .before .before .before .before .bad-parts in
     let a = c .before .before .before .before .before .before .before .before .before .before .args in
     let ids = a .ids .now in
-    (records-in idRules ids 0 (a .n) (a .t2) (k .result .number) (k .result .place) (k .ensures) (omega arith) (l .i) (omega arith), omega (arith, staged-room idRules _ _ _ (l .i) (l .out) _ _ _ (l .texts) (l .lens) (l .keys) (l .inv .1) _ (omega arith) (room-less 64 _ _ _ _ (records-few idRules ids 0 (a .n) (a .t2) (k .result .number) (k .result .place) (k .ensures) (omega arith)) (c .before .before .before .before .before .before .before .before .before .before .pre)) .texts-room))
+    (records-in idRules ids 0 (a .n) (a .t2) (k .result .number) (k .result .place) (k .ensures) (no-number _ (c .before .before .before .before .if1 .left)) (l .i) (c .before .before .loop-test .taken), omega (arith, staged-room idRules _ _ _ (l .i) (l .out) _ _ _ (l .texts) (l .lens) (l .keys) (l .inv .1) _ (c .before .before .loop-test .taken) (room-less 64 _ _ _ _ (records-few idRules ids 0 (a .n) (a .t2) (k .result .number) (k .result .place) (k .ensures) (no-number _ (c .before .before .before .before .if1 .left))) (c .before .before .before .before .before .before .before .before .before .before .pre)) .texts-room))
 
 refused-requires : tie.Need-refused-requires Inv-loop μ-loop
 refused-requires c κs = search needs
@@ -74,43 +74,43 @@ returns-2 c = let l = c .before .before .before .before .before .before .before 
     let ids = a .ids .now in
     let r = getD (a .t2) (l .i) noRecord in
     let m = c .before .before .before .before .canonical-at in
-    let b = staged-bad idRules (rowsOf ids (a .t2)) 0 (a .len) (l .i) (l .out) _ _ _ (l .texts) (l .lens) (l .keys) (l .inv .1) ids r refl (m .last .1 .1 .1 .0) (m .result) (m .ensures .0) (m .ensures .1) (a .n) (omega arith) (c .before .if2 .taken) in
-    (c .refused .ensures ∙ records-rest idRules ids _ (a .n) (a .t2) (k .result .number) (k .result .place) (k .ensures) (omega arith) 5 _ (b .0), formed-is idRules _ _ _ _ _ _ _ _ _ (rest-forms idRules ids 0 (a .n) (a .t2) (k .result .number) (k .result .place) (k .ensures) (omega arith)) (b .1))
+    let b = staged-bad idRules (rowsOf ids (a .t2)) 0 (a .len) (l .i) (l .out) _ _ _ (l .texts) (l .lens) (l .keys) (l .inv .1) ids r refl (m .last .1 .1 .1 .0) (m .result) (m .ensures .0) (m .ensures .1) (a .n) (c .before .before .before .before .before .before .before .loop-test .taken) (c .before .if2 .taken) in
+    (c .refused .ensures ∙ records-rest idRules ids _ (a .n) (a .t2) (k .result .number) (k .result .place) (k .ensures) (no-number _ (c .before .before .before .before .before .before .before .before .before .if1 .left)) 5 _ (b .0), formed-is idRules _ _ _ _ _ _ _ _ _ (rest-forms idRules ids 0 (a .n) (a .t2) (k .result .number) (k .result .place) (k .ensures) (no-number _ (c .before .before .before .before .before .before .before .before .before .if1 .left))) (b .1))
 
 mul-lens : tie.Need-mul-lens Inv-loop μ-loop
 mul-lens c = let l = c .before .before .before .before .before .before .before .loop in
     let k = c .before .before .before .before .before .before .before .before .before .bad-parts in
     let a = c .before .before .before .before .before .before .before .before .before .before .before .before .before .before .args in
     let ids = a .ids .now in
-    omega (arith, records-few idRules ids 0 (a .n) (a .t2) (k .result .number) (k .result .place) (k .ensures) (omega arith))
+    omega (arith, records-few idRules ids 0 (a .n) (a .t2) (k .result .number) (k .result .place) (k .ensures) (no-number _ (c .before .before .before .before .before .before .before .before .if1 .left)))
 
 slice-write-lens : tie.Need-slice-write-lens Inv-loop μ-loop
 slice-write-lens c = let l = c .before .before .before .before .before .before .before .loop in
     let k = c .before .before .before .before .before .before .before .before .before .bad-parts in
     let a = c .before .before .before .before .before .before .before .before .before .before .before .before .before .before .args in
     let ids = a .ids .now in
-    omega (arith, staged-room idRules _ _ _ (l .i) (l .out) _ _ _ (l .texts) (l .lens) (l .keys) (l .inv .1) _ (omega arith) (room-less 64 _ _ _ _ (records-few idRules ids 0 (a .n) (a .t2) (k .result .number) (k .result .place) (k .ensures) (omega arith)) (c .before .before .before .before .before .before .before .before .before .before .before .before .before .before .pre)) .lens-room)
+    omega (arith, staged-room idRules _ _ _ (l .i) (l .out) _ _ _ (l .texts) (l .lens) (l .keys) (l .inv .1) _ (c .before .before .before .before .before .before .loop-test .taken) (room-less 64 _ _ _ _ (records-few idRules ids 0 (a .n) (a .t2) (k .result .number) (k .result .place) (k .ensures) (no-number _ (c .before .before .before .before .before .before .before .before .if1 .left))) (c .before .before .before .before .before .before .before .before .before .before .before .before .before .before .pre)) .lens-room)
 
 mul-keys : tie.Need-mul-keys Inv-loop μ-loop
 mul-keys c = let l = c .before .before .before .before .before .before .before .loop in
     let k = c .before .before .before .before .before .before .before .before .before .bad-parts in
     let a = c .before .before .before .before .before .before .before .before .before .before .before .before .before .before .args in
     let ids = a .ids .now in
-    omega (arith, records-few idRules ids 0 (a .n) (a .t2) (k .result .number) (k .result .place) (k .ensures) (omega arith))
+    omega (arith, records-few idRules ids 0 (a .n) (a .t2) (k .result .number) (k .result .place) (k .ensures) (no-number _ (c .before .before .before .before .before .before .before .before .if1 .left)))
 
 slice-write-keys : tie.Need-slice-write-keys Inv-loop μ-loop
 slice-write-keys c = let l = c .before .before .before .before .before .before .before .loop in
     let k = c .before .before .before .before .before .before .before .before .before .bad-parts in
     let a = c .before .before .before .before .before .before .before .before .before .before .before .before .before .before .args in
     let ids = a .ids .now in
-    omega (arith, staged-room idRules _ _ _ (l .i) (l .out) _ _ _ (l .texts) (l .lens) (l .keys) (l .inv .1) _ (omega arith) (room-less 64 _ _ _ _ (records-few idRules ids 0 (a .n) (a .t2) (k .result .number) (k .result .place) (k .ensures) (omega arith)) (c .before .before .before .before .before .before .before .before .before .before .before .before .before .before .pre)) .keys-room)
+    omega (arith, staged-room idRules _ _ _ (l .i) (l .out) _ _ _ (l .texts) (l .lens) (l .keys) (l .inv .1) _ (c .before .before .before .before .before .before .loop-test .taken) (room-less 64 _ _ _ _ (records-few idRules ids 0 (a .n) (a .t2) (k .result .number) (k .result .place) (k .ensures) (no-number _ (c .before .before .before .before .before .before .before .before .if1 .left))) (c .before .before .before .before .before .before .before .before .before .before .before .before .before .before .pre)) .keys-room)
 
 first-outside-requires : tie.Need-first-outside-requires Inv-loop μ-loop
 first-outside-requires c κs = let l = c .before .before .before .before .before .before .before .loop in
     let k = c .before .before .before .before .before .before .before .before .before .bad-parts in
     let a = c .before .before .before .before .before .before .before .before .before .before .before .before .before .before .args in
     let ids = a .ids .now in
-    omega (arith, records-few idRules ids 0 (a .n) (a .t2) (k .result .number) (k .result .place) (k .ensures) (omega arith))
+    omega (arith, records-few idRules ids 0 (a .n) (a .t2) (k .result .number) (k .result .place) (k .ensures) (no-number _ (c .before .before .before .before .before .before .before .before .if1 .left)))
 
 add-i : tie.Need-add-i Inv-loop μ-loop
 add-i c = search needs
@@ -132,7 +132,7 @@ compare-requires c κs = let l = c .before .before .before .before .loop in
     let k = c .before .before .before .before .before .before .bad-parts in
     let a = c .before .before .before .before .before .before .before .before .before .before .before .args in
     let ids = a .ids .now in
-    (staged-texts idRules idRules-lawful _ _ _ _ (l .i) (l .out) _ _ _ (l .texts) (l .lens) (l .keys) (l .inv .1) (omega arith) (room-less 64 _ _ _ _ (records-few idRules ids 0 (a .n) (a .t2) (k .result .number) (k .result .place) (k .ensures) (omega arith)) (c .before .before .before .before .before .before .before .before .before .before .before .pre)), records-few idRules ids 0 (a .n) (a .t2) (k .result .number) (k .result .place) (k .ensures) (omega arith))
+    (staged-texts idRules idRules-lawful _ _ _ _ (l .i) (l .out) _ _ _ (l .texts) (l .lens) (l .keys) (l .inv .1) (l .inv .0) (c .before .before .before .loop-test .left) (room-less 64 _ _ _ _ (records-few idRules ids 0 (a .n) (a .t2) (k .result .number) (k .result .place) (k .ensures) (no-number _ (c .before .before .before .before .before .if1 .left))) (c .before .before .before .before .before .before .before .before .before .before .before .pre)), records-few idRules ids 0 (a .n) (a .t2) (k .result .number) (k .result .place) (k .ensures) (no-number _ (c .before .before .before .before .before .if1 .left)))
 
 same-length-4 : tie.Need-same-length-4 Inv-loop μ-loop
 same-length-4 c = let l = c .before .before .before .before .before .loop in
@@ -151,8 +151,8 @@ returns-3 c = let l = c .before .before .before .before .before .loop in
     let k = c .before .before .before .before .before .before .before .bad-parts in
     let a = c .before .before .before .before .before .before .before .before .before .before .before .before .args in
     let ids = a .ids .now in
-    let b = staged-rest idRules idRules-lawful _ _ _ _ (l .i) (l .out) _ _ _ (l .texts) (l .lens) (l .keys) (l .inv .1) (omega arith) (room-less 64 _ _ _ _ (records-few idRules ids 0 (a .n) (a .t2) (k .result .number) (k .result .place) (k .ensures) (omega arith)) (c .before .before .before .before .before .before .before .before .before .before .before .before .pre)) _ _ (c .compare .ensures) in
-    (records-rest idRules ids _ (a .n) (a .t2) (k .result .number) (k .result .place) (k .ensures) (omega arith) _ _ (b .0), formed-is idRules _ _ _ _ _ _ _ _ _ (rest-forms idRules ids 0 (a .n) (a .t2) (k .result .number) (k .result .place) (k .ensures) (omega arith)) (b .1))
+    let b = staged-rest idRules idRules-lawful _ _ _ _ (l .i) (l .out) _ _ _ (l .texts) (l .lens) (l .keys) (l .inv .1) (l .inv .0) (c .before .before .before .before .loop-test .left) (room-less 64 _ _ _ _ (records-few idRules ids 0 (a .n) (a .t2) (k .result .number) (k .result .place) (k .ensures) (no-number _ (c .before .before .before .before .before .before .if1 .left))) (c .before .before .before .before .before .before .before .before .before .before .before .before .pre)) _ _ (c .compare .ensures) in
+    (records-rest idRules ids _ (a .n) (a .t2) (k .result .number) (k .result .place) (k .ensures) (no-number _ (c .before .before .before .before .before .before .if1 .left)) _ _ (b .0), formed-is idRules _ _ _ _ _ _ _ _ _ (rest-forms idRules ids 0 (a .n) (a .t2) (k .result .number) (k .result .place) (k .ensures) (no-number _ (c .before .before .before .before .before .before .if1 .left))) (b .1))
 
 pub examine-records-in-spec : {M : Type 1} → statement M
 examine-records-in-spec =
