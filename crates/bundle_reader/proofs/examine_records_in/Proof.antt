@@ -56,15 +56,15 @@ refused-requires c κs = search needs
 
 same-length : tie.Need-same-length Inv-loop μ-loop
 same-length c = let l = c .before .before .before .before .before .before .before .before .loop in
-    omega (arith, c .before .before .before .before .canonical-at .kept .1 .1 .1 .0, formed-lengths _ _ _ _ _ _ _ _ _ (l .inv .1 .formed) .0)
+    c .before .before .before .before .canonical-at .kept .1 .1 .1 .0 ∙ formed-lengths _ _ _ _ _ _ _ _ _ (l .inv .1 .formed) .0
 
 same-length-2 : tie.Need-same-length-2 Inv-loop μ-loop
 same-length-2 c = let l = c .before .before .before .before .before .before .before .before .loop in
-    omega (arith, formed-lengths _ _ _ _ _ _ _ _ _ (l .inv .1 .formed) .1)
+    formed-lengths _ _ _ _ _ _ _ _ _ (l .inv .1 .formed) .1
 
 same-length-3 : tie.Need-same-length-3 Inv-loop μ-loop
 same-length-3 c = let l = c .before .before .before .before .before .before .before .before .loop in
-    omega (arith, formed-lengths _ _ _ _ _ _ _ _ _ (l .inv .1 .formed) .2)
+    formed-lengths _ _ _ _ _ _ _ _ _ (l .inv .1 .formed) .2
 
 returns-2 : tie.Need-returns-2 Inv-loop μ-loop
 unfolding rowOf rowsOf recordAt
@@ -136,15 +136,15 @@ compare-requires c κs = let l = c .before .before .before .before .loop in
 
 same-length-4 : tie.Need-same-length-4 Inv-loop μ-loop
 same-length-4 c = let l = c .before .before .before .before .before .loop in
-    omega (arith, formed-lengths _ _ _ _ _ _ _ _ _ (l .inv .1 .formed) .0)
+    formed-lengths _ _ _ _ _ _ _ _ _ (l .inv .1 .formed) .0
 
 same-length-5 : tie.Need-same-length-5 Inv-loop μ-loop
 same-length-5 c = let l = c .before .before .before .before .before .loop in
-    omega (arith, formed-lengths _ _ _ _ _ _ _ _ _ (l .inv .1 .formed) .1)
+    formed-lengths _ _ _ _ _ _ _ _ _ (l .inv .1 .formed) .1
 
 same-length-6 : tie.Need-same-length-6 Inv-loop μ-loop
 same-length-6 c = let l = c .before .before .before .before .before .loop in
-    omega (arith, formed-lengths _ _ _ _ _ _ _ _ _ (l .inv .1 .formed) .2)
+    formed-lengths _ _ _ _ _ _ _ _ _ (l .inv .1 .formed) .2
 
 returns-3 : tie.Need-returns-3 Inv-loop μ-loop
 returns-3 c = let l = c .before .before .before .before .before .loop in
