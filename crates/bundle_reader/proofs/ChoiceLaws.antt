@@ -1,79 +1,91 @@
--- The pick from a bundle that was examined. Assumes nothing.
+-- The pick from a bundle that was checked. Assumes nothing.
 use Prim.Native.Nat.{ℕ, zero, suc, _≤_, _<_}
 use native.Mathlib.Omega.{arith}
 use mathlib.Core.Path.{_≡_, refl, sym, ap, ap₂, _∙_}
 use mathlib.Core.Bool.{true, false}
 use mathlib.Core.List.{List}
-use lib.ListN.{getD}
 use Rattle.wire.specs.Bytes.{empty}
 use Rattle.wire.specs.First.{first}
-use Rattle.wire.specs.Stop.{Stop}
+use Rattle.wire.specs.Stop.{Stop, stop}
 use Rattle.wire.proofs.FirstLaws.{first-same, first-at, first-before}
 use Rattle.entry_id.specs.IdRules.{IdRules, Lawful}
-use Rattle.bundle.specs.Table.{count, row}
-use Rattle.bundle.specs.Check.{bundleStop}
+use Rattle.bundle.specs.Table.{count, rowStart, row}
+use Rattle.bundle.specs.Check.{bundleStop, check}
 use Rattle.bundle.specs.Pick.{compatibleAt, pick}
-use Rattle.bundle.specs.Accepted.{Accepted}
+use Rattle.bundle.specs.Accepted.{RowFits, Accepted}
 use Rattle.bundle.specs.Theorems.{refusal, Asked}
-use Rattle.bundle.specs.Records.{noRecord, recordAt, rowOf, rowsOf}
-use Rattle.bundle_reader.specs.Examined.{text, formsOf}
-use Rattle.bundle_reader.specs.Slots.{Room, Formed, Texts, Examination}
+use Rattle.bundle.specs.Records.{rowOf}
+use Rattle.bundle_reader.specs.Examined.{heldRow, text, formsOf}
+use Rattle.bundle_reader.specs.Slots.{Room, Formed, Canonical, Pickable, Known}
+use Rattle.bundle.specs.declared.Checked.{Checked}
 use Rattle.bundle.specs.declared.EntryRecord.{EntryRecord}
 use Rattle.bundle.specs.declared.Picked.{Picked}
 use Rattle.bundle.proofs.CheckLaws.{unrefused-go}
 use Rattle.bundle.proofs.AcceptLaws.{accepted}
 use Rattle.bundle.proofs.PickLaws.{pick-refused, pick-query, pick-none, pick-found}
-use Rattle.bundle_reader.proofs.SlotLaws.{formed-texts}
-use Rattle.bundle_reader.proofs.StageLaws.{all-formed}
+use Rattle.bundle_reader.proofs.RowLaws.{row-is}
+use Rattle.bundle_reader.proofs.SlotLaws.{held, formed-texts}
+use Rattle.bundle_reader.proofs.StageLaws.{all-formed, formed-is}
 
-module _ (R : IdRules) (L : Lawful R) (s device texts lens : List ℕ) (number place n : ℕ) (rows : List EntryRecord) (x : Examination R s texts lens number place n rows) where
-  number-is : bundleStop R s .number ≡ number
-  number-is = ap (λ t. t .number) (sym (x .stop-is))
+-- ---- what a check leaves
 
-  pub picked-stop : 0 < number → refusal number place ≡ pick R s device
-  picked-stop h = cases number refl
+module _ (R : IdRules) (L : Lawful R) (s texts₀ lens₀ keys₀ texts lens keys : List ℕ) (c : Checked) (q : c ≡ check R s) (f : Formed R (row s) (formsOf R s) texts₀ lens₀ keys₀ texts lens keys) (room : count s ≤ 64 → Room (count s) texts₀ lens₀ keys₀) where
+  stop-is : stop (c .number) (c .place) ≡ bundleStop R s
+  unfolding check
+  stop-is = ap (λ (z : Checked). stop (z .number) (z .place)) q
+
+  pickable : c .number ≡ 0 → Pickable R s texts lens keys (c .count)
+  unfolding check
+  pickable z =
+      let go : bundleStop R s .number ≡ 0 = ap (λ t. t .number) (sym stop-is) ∙ z in
+      let sound : Accepted R s = accepted R s go in
+      let n : c .count ≡ count s = ap (λ (z : Checked). z .count) q ∙ unrefused-go (bundleStop R s) (count s) go in
+      let r : Room (c .count) texts₀ lens₀ keys₀ = rw n (room (sound .frame .few)) in
+      let g : Formed R (row s) (c .count) texts₀ lens₀ keys₀ texts lens keys = formed-is R (row s) _ _ texts₀ lens₀ keys₀ texts lens keys (all-formed R s go ∙ sym n) f in
+      record {
+        sound = sound;
+        count-is = n;
+        held = held R L (row s) (c .count) texts₀ lens₀ texts lens (r .texts-room) (r .lens-room) (g .texts-are) (g .lens-are);
+        texts-are = formed-texts R L (row s) (c .count) texts₀ lens₀ keys₀ texts lens keys r g (λ k h. sound .sense .meant .named k (omega (arith, n)));
+      }
+
+  pub known : Known R s texts lens keys c
+  known = record { stop-is = stop-is; pickable = pickable }
+
+-- ---- the pick then
+
+module _ (R : IdRules) (s device : List ℕ) where
+  pub picked-stop : (t : Stop) → t ≡ bundleStop R s → 0 < t .number → refusal (t .number) (t .place) ≡ pick R s device
+  picked-stop t e h = cases (t .number) refl
     where
-      cases : (k : ℕ) → number ≡ k → refusal number place ≡ pick R s device
-      cases zero e = absurd (omega arith)
-      cases (suc k) e = ap (λ (t : Stop). refusal (t .number) (t .place)) (x .stop-is) ∙ sym (pick-refused R s device k (number-is ∙ e))
+      cases : (k : ℕ) → t .number ≡ k → refusal (t .number) (t .place) ≡ pick R s device
+      cases zero z = absurd (omega arith)
+      cases (suc k) z = ap (λ (u : Stop). refusal (u .number) (u .place)) e ∙ sym (pick-refused R s device k (ap (λ (u : Stop). u .number) (sym e) ∙ z))
 
-  module _ (z : number ≡ 0) where
-    sound : Accepted R s
-    sound = accepted R s (number-is ∙ z)
+  pub picked-query : Accepted R s → empty (R .canon device) ≡ true → refusal 9 0 ≡ pick R s device
+  picked-query a q = sym (pick-query R s device a q)
 
-    n-is : n ≡ count s
-    n-is = x .count-is ∙ unrefused-go (bundleStop R s) (count s) (number-is ∙ z)
+module _ (R : IdRules) (L : Lawful R) (s texts lens keys : List ℕ) (n : ℕ) (p : Pickable R s texts lens keys n) where
+  pub row-fits : (i : ℕ) → i < n → (k : ℕ) → k ≤ i → RowFits s (rowStart s k)
+  row-fits i h k l = p .sound .frame .rows k (omega (arith, p .count-is))
 
-    pub few : n ≤ 64
-    few = omega (arith, n-is, sound .frame .few)
+  module _ (name : List ℕ) (m : Canonical R name) (i : ℕ) (q : i ≡ first n (λ k. R .compatible (text texts lens k) name)) (device : List ℕ) (e : name ≡ R .canon device) where
+    asked : Asked R s device
+    asked = record { bundle = p .sound; name = ap empty (sym e) ∙ m .some }
 
-    pub texts-all : (texts₀ lens₀ keys₀ keys : List ℕ) → (count s ≤ 64 → Room (count s) texts₀ lens₀ keys₀) → Formed R (row s) (formsOf R s) texts₀ lens₀ keys₀ texts lens keys → Texts R texts lens keys n
-    texts-all texts₀ lens₀ keys₀ keys room f =
-        let m : formsOf R s ≡ n = all-formed R s (number-is ∙ z) ∙ sym n-is in
-        formed-texts R L (row s) n texts₀ lens₀ keys₀ texts lens keys (rw n-is (room (sound .frame .few))) (rw m at f)
-        (λ k h. sound .sense .meant .named k (omega (arith, n-is)))
+    i-is : i ≡ first n (compatibleAt R s device)
+    unfolding compatibleAt
+    i-is = q ∙ first-same n _ _ (λ k h. ap₂ (R .compatible) (p .held k h .text-is) e)
 
-    pub picked-query : empty (R .canon device) ≡ true → refusal 9 0 ≡ pick R s device
-    picked-query q = sym (pick-query R s device sound q)
+    pub picked-none : n ≤ i → refusal 10 0 ≡ pick R s device
+    picked-none h =
+        sym (pick-none R s device asked
+        (λ k l. first-before n (compatibleAt R s device) k (omega (arith, i-is, p .count-is))))
 
-    module _ (name : List ℕ) (e : name ≡ R .canon device) (v : empty (R .canon device) ≡ false) (i : ℕ) (q : i ≡ first n (λ k. R .compatible (text texts lens k) name)) where
-      asked : Asked R s device
-      asked = record { bundle = sound; name = v }
-
-      i-is : i ≡ first n (compatibleAt R s device)
-      unfolding compatibleAt
-      i-is = q ∙ first-same n _ _ (λ k h. ap₂ (R .compatible) (x .held z k h .text-is) e)
-
-      pub picked-none : n ≤ i → refusal 10 0 ≡ pick R s device
-      picked-none h =
-          sym (pick-none R s device asked
-          (λ k l. first-before n (compatibleAt R s device) k (omega (arith, i-is, n-is))))
-
-      pub picked-image : i < n → (r : EntryRecord) → r ≡ getD rows i noRecord
-          → _≡_ {A = Picked} (record { number = 0; place = 0; index = i; position = r .«image_start»; size = r .«image_len» }) (pick R s device)
-      unfolding rowsOf recordAt rowOf
-      picked-image h r p =
-          let f : compatibleAt R s device i ≡ true = ap (compatibleAt R s device) i-is ∙ first-at n (compatibleAt R s device) (omega (arith, i-is)) in
-          let e : rowOf s r ≡ row s i = ap (rowOf s) p ∙ x .rows-are z i h in
-          ap (λ q. record { number = 0; place = 0; index = i; position = q .offset; size = q .size }) e
-          ∙ sym (pick-found R L s device asked i (omega (arith, n-is)) f)
+    pub picked-image : i < n → (r : EntryRecord) → r ≡ heldRow s (rowStart s i)
+        → _≡_ {A = Picked} (record { number = 0; place = 0; index = i; position = r .«image_start»; size = r .«image_len» }) (pick R s device)
+    unfolding rowOf
+    picked-image h r w =
+        let f : compatibleAt R s device i ≡ true = ap (compatibleAt R s device) i-is ∙ first-at n (compatibleAt R s device) (omega (arith, i-is)) in
+        ap (λ q. record { number = 0; place = 0; index = i; position = q .offset; size = q .size }) (row-is s i _ refl r w)
+        ∙ sym (pick-found R L s device asked i (omega (arith, p .count-is)) f)

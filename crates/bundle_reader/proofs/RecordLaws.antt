@@ -11,17 +11,17 @@ use borrow.Author.Tests.{leb-true, le-leb, lt-ltb, le-ltb, ltb-false}
 use Rattle.wire.specs.First.{first}
 use Rattle.wire.specs.Stop.{Stop, stop, _⨾_, stopIf, stopWhen, stopAt}
 use Rattle.wire.proofs.Bools.{byBool, and-both, both-and, not-no, yes-not}
-use Rattle.wire.proofs.FirstLaws.{first-before, first-none}
+use Rattle.wire.proofs.FirstLaws.{first-none}
 use Rattle.wire.proofs.StopLaws.{⨾-go, ⨾-next, ⨾-left, ⨾-right, stopIf-no, stopAt-no, stopAt-found, stopAt-clear}
 use Rattle.entry_id.specs.IdRules.{IdRules, Lawful}
 use Rattle.bundle.specs.Check.{badId, rowsStop}
 use Rattle.bundle.specs.Records.{recordAt, rowsOf, badPart, recordsStop}
-use Rattle.bundle_reader.specs.Slots.{IdsIn, Judged}
+use Rattle.bundle_reader.specs.Slots.{Judged}
 use Rattle.bundle_reader.specs.Examined.{filled, slots, form, formLength, made, examinedRecords, formsOfRecords}
 use Rattle.bundle_reader.specs.declared.Refusal.{Refusal}
-use Rattle.bundle.proofs.CheckLaws.{unrefused-go, unrefused-stop}
+use Rattle.bundle.proofs.CheckLaws.{unrefused-go}
 use Rattle.bundle.specs.declared.EntryRecord.{EntryRecord}
-use Rattle.bundle_reader.proofs.StageLaws.{found-at, past}
+use Rattle.bundle_reader.proofs.StageLaws.{⨾-assoc, stops-first, none-left}
 use Rattle.bundle_reader.proofs.SlotLaws.{held}
 
 -- an ID part of 1 to 256 bytes lies in its buffer
@@ -47,47 +47,54 @@ pub stop-many : (R : IdRules) (ids : List ℕ) (len n : ℕ) (rows : List EntryR
 unfolding recordsStop stopIf stopWhen _⨾_
 stop-many R ids len n rows h = rw (lt-ltb 64 n h)
 
-module _ (R : IdRules) (ids : List ℕ) (len n : ℕ) (rows : List EntryRecord) where
-  answer : (number place : ℕ) → stop number place ≡ recordsStop R ids len n rows → _≡_ {A = Refusal} (record { number = number; place = place }) (examinedRecords R ids len n rows)
-  unfolding examinedRecords
-  answer number place e = ap (λ (t : Stop). record { number = t .number; place = t .place }) e
+-- ---- 3 and 4
 
-  pub records-many : 64 < n → _≡_ {A = Refusal} (record { number = 3; place = 0 }) (examinedRecords R ids len n rows)
-  records-many h = answer 3 0 (sym (stop-many R ids len n rows h))
+abbrev partsStop : ℕ → ℕ → List EntryRecord → Stop
+partsStop room n rows = stopIf 3 (ltb 64 n) ⨾ stopAt 4 n (λ i. badPart room (recordAt rows i))
 
-  pub many-forms : 64 < n → formsOfRecords R ids n rows ≡ 0
-  unfolding formsOfRecords made stopIf stopWhen _⨾_
-  many-forms h = rw (lt-ltb 64 n h) (unrefused-stop (stop 3 0) _ 2 refl)
+module _ (room n : ℕ) (rows : List EntryRecord) where
+  pub parts-many : 64 < n → stop 3 0 ≡ partsStop room n rows
+  unfolding stopIf stopWhen _⨾_
+  parts-many h = rw (lt-ltb 64 n h)
 
-  module _ (few : n ≤ 64) (bad : ℕ) (e : bad ≡ first n (λ i. badPart (length ids) (recordAt rows i))) where
-    past-3 : (t rest : Stop) → t ≡ stopAt 4 n (λ i. badPart (length ids) (recordAt rows i)) ⨾ rest → t ≡ stopIf 3 (ltb 64 n) ⨾ stopAt 4 n (λ i. badPart (length ids) (recordAt rows i)) ⨾ rest
+  module _ (few : n ≤ 64) (bad : ℕ) (e : bad ≡ first n (λ i. badPart room (recordAt rows i))) where
+    pub parts-bad : bad < n → stop 4 bad ≡ partsStop room n rows
     unfolding stopIf stopWhen
-    past-3 t rest q = rw (le-ltb 64 n few) (q ∙ sym (⨾-go _))
+    parts-bad h = rw (le-ltb 64 n few) (sym (⨾-go _ ∙ stopAt-found 4 n _ bad e h))
 
-    parts : stopIf 3 (ltb 64 n) ⨾ stopAt 4 n (λ i. badPart (length ids) (recordAt rows i)) ≡ stopAt 4 n (λ i. badPart (length ids) (recordAt rows i))
+    pub parts-none : n ≤ bad → stop 0 0 ≡ partsStop room n rows
     unfolding stopIf stopWhen
-    parts = rw (le-ltb 64 n few) (⨾-go _)
+    parts-none h = rw (le-ltb 64 n few) (sym (⨾-go _ ∙ stopAt-clear 4 n _ bad e h))
 
-    pub records-part : bad < n → _≡_ {A = Refusal} (record { number = 4; place = bad }) (examinedRecords R ids len n rows)
-    unfolding recordsStop
-    records-part h = answer 4 bad (past-3 _ _ (found-at 3 n _ bad _ e h))
+module _ (R : IdRules) (ids : List ℕ) (len n : ℕ) (rows : List EntryRecord) (number place : ℕ) (e : stop number place ≡ partsStop (length ids) n rows) where
+  answer : (k i : ℕ) → stop k i ≡ partsStop (length ids) n rows ⨾ rowsStop R 0 len n (rowsOf ids rows) → _≡_ {A = Refusal} (record { number = k; place = i }) (examinedRecords R ids len n rows)
+  unfolding examinedRecords recordsStop
+  answer k i q = ap (λ (t : Stop). record { number = t .number; place = t .place }) (q ∙ ⨾-assoc (stopIf 3 (ltb 64 n)) _ _)
 
-    pub part-forms : bad < n → formsOfRecords R ids n rows ≡ 0
+  module _ (h : 0 < number) where
+    pub records-refused : _≡_ {A = Refusal} (record { number = number; place = place }) (examinedRecords R ids len n rows)
+    records-refused = answer number place (stops-first _ _ number place h e)
+
+    pub refused-forms : formsOfRecords R ids n rows ≡ 0
     unfolding formsOfRecords made
-    part-forms h = unrefused-stop _ _ 3 (ap (λ t. t .number) (parts ∙ stopAt-found 4 n _ bad e h))
+    refused-forms = none-left _ number place _ h e
 
-    module _ (none : n ≤ bad) where
-      pub records-in : IdsIn ids n rows
-      unfolding recordAt
-      records-in = record { few = few; inside = λ k h. partFits (length ids) (recordAt rows k) .0 (first-before n (λ i. badPart (length ids) (recordAt rows i)) k (omega (arith, e))) .inside }
+  module _ (z : number ≡ 0) where
+    none : partsStop (length ids) n rows .number ≡ 0
+    none = ap (λ (t : Stop). t .number) (sym e) ∙ z
 
-      pub records-rest : (number place : ℕ) → stop number place ≡ rowsStop R 0 len n (rowsOf ids rows) → _≡_ {A = Refusal} (record { number = number; place = place }) (examinedRecords R ids len n rows)
-      unfolding recordsStop
-      records-rest number place q = answer number place (past-3 _ _ (q ∙ past 4 n _ bad _ _ e none refl))
+    pub records-few : n ≤ 64
+    records-few = ltb-false 64 n (stopIf-no 2 (ltb 64 n) (⨾-left _ _ none))
 
-      pub rest-forms : formsOfRecords R ids n rows ≡ first n (λ i. badId R (rowsOf ids rows i))
-      unfolding formsOfRecords made
-      rest-forms = unrefused-go _ _ (ap (λ t. t .number) (parts ∙ stopAt-clear 4 n _ bad e none))
+    pub records-in : (k : ℕ) → k < n → recordAt rows k .«id_start» + recordAt rows k .«id_len» ≤ length ids
+    records-in k h = partFits (length ids) (recordAt rows k) .0 (stopAt-no 3 n _ (⨾-right _ _ none) k h) .inside
+
+    pub records-rest : (k i : ℕ) → stop k i ≡ rowsStop R 0 len n (rowsOf ids rows) → _≡_ {A = Refusal} (record { number = k; place = i }) (examinedRecords R ids len n rows)
+    records-rest k i q = answer k i (q ∙ sym (⨾-next _ _ none))
+
+    pub rest-forms : first n (λ i. badId R (rowsOf ids rows i)) ≡ formsOfRecords R ids n rows
+    unfolding formsOfRecords made
+    rest-forms = sym (unrefused-go _ _ none)
 
 -- of records that nothing refuses every form is made
 all-made : (R : IdRules) (ids : List ℕ) (len n : ℕ) (rows : List EntryRecord) → recordsStop R ids len n rows .number ≡ 0 → (n ≤ 64) × (formsOfRecords R ids n rows ≡ n)

@@ -7,13 +7,14 @@ use mathlib.Core.Bool.{Bool, true, false}
 use mathlib.Core.List.{List}
 use lib.ListN.{length, getD, set, replicate, length-replicate}
 use Rattle.wire.specs.Word.{word}
-use Rattle.wire.proofs.FirstLaws.{first-is, first-none, first-before}
+use Rattle.wire.specs.First.{first}
+use Rattle.wire.proofs.FirstLaws.{first-is, first-none}
 use Rattle.bundle.specs.Table.{rowStart, row, rowAt}
 use Rattle.bundle.specs.Check.{badRow}
 use Rattle.bundle.specs.Accepted.{RowFits}
 use Rattle.bundle.specs.Records.{noRecord, recordAt, rowOf, rowsOf}
 use Rattle.bundle_reader.specs.Examined.{heldRow, rowsIn}
-use Rattle.bundle_reader.specs.Slots.{Rows, Tabled}
+use Rattle.bundle_reader.specs.Slots.{Rows}
 use Rattle.bundle_reader.proofs.SlotLaws.{filled-at, filled-next}
 use Rattle.bundle.specs.declared.EntryRecord.{EntryRecord}
 use Rattle.bundle.proofs.CheckLaws.{rowFits}
@@ -32,19 +33,16 @@ module _ (s : List ℕ) (i at : ℕ) (e : at ≡ rowStart s i) where
   unfolding rowStart
   next-start = ap (λ z. z + 24 + word 8 s (z + 16)) e ∙ rw add-one
 
+  pub row-here : RowFits s (rowStart s i) → RowFits s at
+  row-here f = rw e f
+
   -- the rows before it are not bad
   module _ (passed : (k : ℕ) → k < i → badRow s (rowStart s k) ≡ false) where
-    pub tabled-bad : (n end : ℕ) (b : Bool) → i < n → b ≡ badRow s at → b ≡ true → Tabled s n i end
-    tabled-bad n end b h u v = record {
-      bad-is = sym (first-is n (λ k. badRow s (rowStart s k)) i h (ap (badRow s) (sym e) ∙ sym u ∙ v) passed);
-      end-is = λ l. absurd (omega arith);
-    }
+    pub bad-first : (n : ℕ) (b : Bool) → i < n → b ≡ badRow s at → b ≡ true → i ≡ first n (λ k. badRow s (rowStart s k))
+    bad-first n b h u v = sym (first-is n (λ k. badRow s (rowStart s k)) i h (ap (badRow s) (sym e) ∙ sym u ∙ v) passed)
 
-    pub tabled-all : (n : ℕ) → i ≡ n → Tabled s n i at
-    tabled-all n z = record {
-      bad-is = z ∙ sym (first-none n (λ k. badRow s (rowStart s k)) (λ k h. passed k (omega arith)));
-      end-is = λ l. e ∙ ap (rowStart s) z;
-    }
+    pub bad-none : (n : ℕ) → i ≡ n → i ≡ first n (λ k. badRow s (rowStart s k))
+    bad-none n z = z ∙ sym (first-none n (λ k. badRow s (rowStart s k)) (λ k h. passed k (omega arith)))
 
   -- the row that is read there
   module _ (r : EntryRecord) (q : r ≡ heldRow s at) where
@@ -59,9 +57,6 @@ module _ (s : List ℕ) (i at : ℕ) (e : at ≡ rowStart s i) where
     pub rows-more : (rows : List EntryRecord) → rows ≡ rowsIn s i → set rows i r ≡ rowsIn s (i + 1)
     unfolding rowsIn
     rows-more rows p = ap₂ (λ z x. set z i x) p (q ∙ ap (heldRow s) e) ∙ sym (filled-next (replicate 64 noRecord) i (λ k. heldRow s (rowStart s k)))
-
-pub tabled-fits : (s : List ℕ) (n bad end : ℕ) → Tabled s n bad end → n ≤ bad → (k : ℕ) → k < n → RowFits s (rowStart s k)
-tabled-fits s n bad end t h k l = rowFits s (rowStart s k) .0 (first-before n (λ i. badRow s (rowStart s i)) k (omega (arith, t .bad-is)))
 
 -- ---- rows that were read
 

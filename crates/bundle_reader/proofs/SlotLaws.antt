@@ -22,7 +22,7 @@ use Rattle.entry_id.specs.Canonical.{headKey}
 use Rattle.canonical_form.specs.Made.{formOf}
 use Rattle.canonical_form.specs.declared.Form.{Form}
 use Rattle.bundle_reader.specs.Examined.{filled, slots, text, form, formLength}
-use Rattle.bundle_reader.specs.Slots.{firstMore, Held, Texts, Room, Formed, Placed, setIf}
+use Rattle.bundle_reader.specs.Slots.{firstMore, Held, Texts, Room, Formed}
 
 pub length-empty : (l : List ℕ) → length l ≡ 0 → empty l ≡ true
 unfolding empty
@@ -138,6 +138,9 @@ module _ (R : IdRules) (L : Lawful R) (rows : ℕ → Row) (m : ℕ) (texts₀ l
         let g : getD lens k 0 ≡ length (R .canon (rows k .id)) = ap (λ z. getD z k 0) le ∙ filled-at lens₀ m (formLength R rows) 0 places k h in
         record { size = g; text-is = ap₂ (λ n z. take n (drop (k * 256) z)) g te ∙ slots-text texts₀ m (form R rows) (λ j. L .canon-short (rows j .id)) room k h }
 
+pub room-less : (m n : ℕ) (texts lens keys : List ℕ) → n ≤ m → Room m texts lens keys → Room n texts lens keys
+room-less m n texts lens keys h r = record { texts-room = omega (arith, r .texts-room); lens-room = omega (arith, r .lens-room); keys-room = omega (arith, r .keys-room) }
+
 -- ---- the loop that makes them, at row i
 
 module _ (R : IdRules) (rows : ℕ → Row) (i : ℕ) (texts₀ lens₀ keys₀ texts lens keys : List ℕ) (f : Formed R rows i texts₀ lens₀ keys₀ texts lens keys) where
@@ -151,53 +154,44 @@ module _ (R : IdRules) (rows : ℕ → Row) (i : ℕ) (texts₀ lens₀ keys₀ 
     keys-room = omega (arith, r .keys-room, formed-lengths .2);
   }
 
-  -- the ID of row i, placed
-  module _ (id after lens-after keys-after : List ℕ) (ok : Bool) (e : id ≡ rows i .id) (p : Placed R id i texts lens keys after lens-after keys-after ok) where
-    pub formed-more : ok ≡ true → Formed R rows (i + 1) texts₀ lens₀ keys₀ after lens-after keys-after
+  -- of the ID of row i its canonical form was made
+  module _ (id after : List ℕ) (made : Form) (e : id ≡ rows i .id) (q : made ≡ formOf (R .canon id)) (w : after ≡ overwrite texts (i * 256) (R .canon id)) where
+    size : made .length ≡ length (R .canon id)
+    unfolding formOf
+    size = ap (λ (z : Form). z .length) q
+
+    number : made .key ≡ headKey (R .canon id)
+    unfolding formOf
+    number = ap (λ (z : Form). z .key) q
+
+    pub formed-more : Formed R rows (i + 1) texts₀ lens₀ keys₀ after (set lens i (made .length)) (set keys i (made .key))
     unfolding form formLength
-    formed-more y = record {
-      texts-are = p .texts-are ∙ ap₂ (λ z x. overwrite z (i * 256) (R .canon x)) (f .texts-are) e ∙ sym (slots-next texts₀ i (form R rows));
-      lens-are = p .lens-are ∙ ap (λ b. setIf b lens i (length (R .canon id))) y ∙ ap₂ (λ z x. set z i (length (R .canon x))) (f .lens-are) e ∙ sym (filled-next lens₀ i (formLength R rows));
-      keys-are = p .keys-are ∙ ap (λ b. setIf b keys i (headKey (R .canon id))) y ∙ ap₂ (λ z x. set z i (headKey (R .canon x))) (f .keys-are) e ∙ sym (filled-next keys₀ i (λ k. headKey (form R rows k)));
+    formed-more = record {
+      texts-are = w ∙ ap₂ (λ z x. overwrite z (i * 256) (R .canon x)) (f .texts-are) e ∙ sym (slots-next texts₀ i (form R rows));
+      lens-are = ap (set lens i) size ∙ ap₂ (λ z x. set z i (length (R .canon x))) (f .lens-are) e ∙ sym (filled-next lens₀ i (formLength R rows));
+      keys-are = ap (set keys i) number ∙ ap₂ (λ z x. set z i (headKey (R .canon x))) (f .keys-are) e ∙ sym (filled-next keys₀ i (λ k. headKey (form R rows k)));
     }
 
-    pub bad-here : ok ≡ false → badId R (rows i) ≡ true
+    pub fine-here : (made .length ≡ 0 → ⊥) → badId R (rows i) ≡ false
     unfolding badId
-    bad-here y = ap (λ z. empty (R .canon z)) (sym e) ∙ p .bad y
+    fine-here y = ap (λ z. empty (R .canon z)) (sym e) ∙ length-some (R .canon id) (λ (z : length (R .canon id) ≡ 0). y (size ∙ z))
 
-    pub fine-here : ok ≡ true → badId R (rows i) ≡ false
-    unfolding badId
-    fine-here y = ap (λ z. empty (R .canon z)) (sym e) ∙ p .fine y
+    -- it has none
+    module _ (y : made .length ≡ 0) where
+      none : empty (R .canon id) ≡ true
+      none = length-empty (R .canon id) (sym size ∙ y)
 
-    -- nothing is written of an ID that breaks the rules
-    pub formed-bad : ok ≡ false → Formed R rows i texts₀ lens₀ keys₀ after lens-after keys-after
-    formed-bad y = record {
-      texts-are = p .texts-are ∙ ap (overwrite texts (i * 256)) (empty-nil (R .canon id) (p .bad y)) ∙ overwrite-nil texts (i * 256) ∙ f .texts-are;
-      lens-are = p .lens-are ∙ ap (λ b. setIf b lens i (length (R .canon id))) y ∙ f .lens-are;
-      keys-are = p .keys-are ∙ ap (λ b. setIf b keys i (headKey (R .canon id))) y ∙ f .keys-are;
-    }
+      pub bad-here : badId R (rows i) ≡ true
+      unfolding badId
+      bad-here = ap (λ z. empty (R .canon z)) (sym e) ∙ none
 
--- what `canonical_at` gives, placed or not
-module _ (R : IdRules) (id : List ℕ) (i : ℕ) (texts lens keys after : List ℕ) (made : Form) (q : made ≡ formOf (R .canon id)) (w : after ≡ overwrite texts (i * 256) (R .canon id)) where
-  size : made .length ≡ length (R .canon id)
-  unfolding formOf
-  size = ap (λ (z : Form). z .length) q
-
-  number : made .key ≡ headKey (R .canon id)
-  unfolding formOf
-  number = ap (λ (z : Form). z .key) q
-
-  pub placed-none : made .length ≡ 0 → Placed R id i texts lens keys after lens keys false
-  placed-none z = record { bad = λ y. length-empty (R .canon id) (sym size ∙ z); fine = λ y. clash false y refl; texts-are = w; lens-are = refl; keys-are = refl }
-
-  pub placed-one : (made .length ≡ 0 → ⊥) → Placed R id i texts lens keys after (set lens i (made .length)) (set keys i (made .key)) true
-  placed-one z = record {
-    bad = λ y. clash true refl y;
-    fine = λ y. length-some (R .canon id) (λ (q : length (R .canon id) ≡ 0). z (size ∙ q));
-    texts-are = w;
-    lens-are = ap (set lens i) size;
-    keys-are = ap (set keys i) number;
-  }
+      -- nothing was written
+      pub formed-bad : Formed R rows i texts₀ lens₀ keys₀ after lens keys
+      formed-bad = record {
+        texts-are = w ∙ ap (overwrite texts (i * 256)) (empty-nil (R .canon id) none) ∙ overwrite-nil texts (i * 256) ∙ f .texts-are;
+        lens-are = f .lens-are;
+        keys-are = f .keys-are;
+      }
 
 -- ---- the slots, as texts
 

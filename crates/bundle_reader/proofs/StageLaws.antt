@@ -5,13 +5,14 @@ use mathlib.Core.Path.{_≡_, refl, sym, ap, ap₂, _∙_, subst}
 use mathlib.Core.Bool.{Bool, true, false}
 use mathlib.Core.List.{List}
 use lib.Dec.{ltb}
-use lib.ListN.{length}
+use lib.ListN.{length, set}
 use borrow.Author.Tests.{ltb-true, ltb-false}
 use borrow.Author.Count.{below-more, below-none}
+use Rattle.wire.specs.Bytes.{overwrite}
 use Rattle.wire.specs.First.{first}
 use Rattle.wire.specs.Stop.{Stop, go, stop, _⨾_, stopAt, earlier}
 use Rattle.wire.proofs.Bools.{byBool}
-use Rattle.wire.proofs.FirstLaws.{first-is, first-none, any-same}
+use Rattle.wire.proofs.FirstLaws.{first-is, first-none, first-before, any-same}
 use Rattle.wire.proofs.StopLaws.{⨾-go, ⨾-stop, ⨾-next, ⨾-left, ⨾-right, stopAt-same, stopAt-found, stopAt-clear}
 use Rattle.entry_id.specs.IdRules.{IdRules, Lawful}
 use Rattle.bundle.specs.Table.{Row, count, rowStart, row, tableEnd}
@@ -20,10 +21,12 @@ use Rattle.bundle.specs.Accepted.{RowFits, Accepted}
 use Rattle.bundle.specs.Records.{rowOf}
 use Rattle.bundle.specs.declared.EntryRecord.{EntryRecord}
 use Rattle.bundle.specs.declared.Checked.{Checked}
-use Rattle.bundle.proofs.CheckLaws.{unrefused-go, unrefused-stop}
-use Rattle.bundle.proofs.AcceptLaws.{accepted}
+use Rattle.canonical_form.specs.Made.{formOf}
+use Rattle.canonical_form.specs.declared.Form.{Form}
+use Rattle.bundle.proofs.CheckLaws.{rowFits, unrefused-go, unrefused-stop}
+use Rattle.bundle.proofs.AcceptLaws.{accepted, counted}
 use Rattle.bundle_reader.specs.Examined.{filled, slots, text, form, formLength, made, rowsIn, examined, formsOf}
-use Rattle.bundle_reader.specs.Slots.{Rows, Tabled, Room, Formed, Placed, Staged, firstMore, Held, Texts, relation, Examination}
+use Rattle.bundle_reader.specs.Slots.{Rows, Passed, Tabled, Room, Formed, Staged, firstMore, Held, Texts, relation, Examination}
 use Rattle.bundle_reader.specs.declared.Examined.{Examined}
 use Rattle.bundle_reader.proofs.RowLaws.{rows-are}
 use Rattle.bundle_reader.proofs.SlotLaws.{first-more, held, formed-room, formed-more, formed-bad, bad-here, fine-here, formed-texts}
@@ -36,11 +39,21 @@ found-at k n p r rest e h = rw (stopAt-found (suc k) n p r e h) (sym (⨾-stop (
 pub past : (k n : ℕ) (p : ℕ → Bool) (r : ℕ) (rest t : Stop) → r ≡ first n p → n ≤ r → t ≡ rest → t ≡ stopAt k n p ⨾ rest
 past k n p r rest t e h q = rw (stopAt-clear k n p r e h) (q ∙ sym (⨾-go rest))
 
+pub no-number : (k : ℕ) → k ≤ 0 → k ≡ 0
+no-number k h = omega arith
+
+pub ⨾-assoc : (a b c : Stop) → (a ⨾ b) ⨾ c ≡ a ⨾ b ⨾ c
+⨾-assoc a b c = cases (a .number) refl
+  where
+    cases : (k : ℕ) → a .number ≡ k → (a ⨾ b) ⨾ c ≡ a ⨾ b ⨾ c
+    cases zero e = ap (λ z. z ⨾ c) (⨾-next a b e) ∙ sym (⨾-next a (b ⨾ c) e)
+    cases (suc k) e = ap (λ z. z ⨾ c) (⨾-stop a b k e) ∙ ⨾-stop a c k e ∙ sym (⨾-stop a (b ⨾ c) k e)
+
 pub stops-first : (a b : Stop) (k i : ℕ) → 0 < k → stop k i ≡ a → stop k i ≡ a ⨾ b
 stops-first a b zero i h e = absurd (omega arith)
 stops-first a b (suc k) i h e = e ∙ sym (⨾-stop a b k (ap (λ t. t .number) (sym e)))
 
-none-left : (a : Stop) (k i v : ℕ) → 0 < k → stop k i ≡ a → unrefused a v ≡ 0
+pub none-left : (a : Stop) (k i v : ℕ) → 0 < k → stop k i ≡ a → unrefused a v ≡ 0
 none-left a zero i v h e = absurd (omega arith)
 none-left a (suc k) i v h e = unrefused-stop a v k (ap (λ t. t .number) (sym e))
 
@@ -108,28 +121,28 @@ module _ (R : IdRules) (rows : ℕ → Row) (end len i out : ℕ) (texts₀ lens
       let r = formed-room R rows i texts₀ lens₀ keys₀ texts lens keys (st .formed) n room in
       record { texts-room = omega (arith, r .texts-room); lens-room = omega (arith, r .lens-room); keys-room = omega (arith, r .keys-room) }
 
-  -- row i, of which r holds the ID and the image
-  module _ (ids : List ℕ) (r : EntryRecord) (e : rowOf ids r ≡ rows i) (after lens-after keys-after : List ℕ) (ok : Bool) (p : Placed R (rowOf ids r .id) i texts lens keys after lens-after keys-after ok) where
+  -- row i, of which r holds the ID and the image, and its canonical form
+  module _ (ids : List ℕ) (r : EntryRecord) (e : rowOf ids r ≡ rows i) (after : List ℕ) (made : Form) (q : made ≡ formOf (R .canon (rowOf ids r .id))) (w : after ≡ overwrite texts (i * 256) (R .canon (rowOf ids r .id))) where
     id-is : rowOf ids r .id ≡ rows i .id
     id-is = ap (λ z. z .id) e
 
-    pub staged-more : ok ≡ true → (next : ℕ) → next ≡ firstMore out i (outside end len (r .«image_start») (r .«image_len»)) → Staged R rows end len (i + 1) next texts₀ lens₀ keys₀ after lens-after keys-after
+    pub staged-more : (made .length ≡ 0 → ⊥) → (next : ℕ) → next ≡ firstMore out i (outside end len (r .«image_start») (r .«image_len»)) → Staged R rows end len (i + 1) next texts₀ lens₀ keys₀ after (set lens i (made .length)) (set keys i (made .key))
     unfolding rowOf
-    staged-more y next q = record {
-      formed = formed-more R rows i texts₀ lens₀ keys₀ texts lens keys (st .formed) _ after lens-after keys-after ok id-is p y;
-      named = below-more _ i (st .named) (fine-here R rows i texts₀ lens₀ keys₀ texts lens keys (st .formed) _ after lens-after keys-after ok id-is p y);
-      out-is = q ∙ first-more out i _ _ (st .out-is) (ap (λ z. outside end len (z .offset) (z .size)) e);
+    staged-more y next p = record {
+      formed = formed-more R rows i texts₀ lens₀ keys₀ texts lens keys (st .formed) _ after made id-is q w;
+      named = below-more _ i (st .named) (fine-here R rows i texts₀ lens₀ keys₀ texts lens keys (st .formed) _ after made id-is q w y);
+      out-is = p ∙ first-more out i _ _ (st .out-is) (ap (λ z. outside end len (z .offset) (z .size)) e);
     }
 
-    pub staged-bad : (n : ℕ) → i < n → ok ≡ false → (stop 5 i ≡ rowsStop R end len n rows) × Formed R rows (first n (λ k. badId R (rows k))) texts₀ lens₀ keys₀ after lens-after keys-after
+    pub staged-bad : (n : ℕ) → i < n → made .length ≡ 0 → (stop 5 i ≡ rowsStop R end len n rows) × Formed R rows (first n (λ k. badId R (rows k))) texts₀ lens₀ keys₀ after lens keys
     staged-bad n h y =
-        let b = sym (first-is n (λ k. badId R (rows k)) i h (bad-here R rows i texts₀ lens₀ keys₀ texts lens keys (st .formed) _ after lens-after keys-after ok id-is p y) (st .named)) in
-        (at-5 R rows n end len i b h, formed-is R rows i _ texts₀ lens₀ keys₀ after lens-after keys-after b (formed-bad R rows i texts₀ lens₀ keys₀ texts lens keys (st .formed) _ after lens-after keys-after ok id-is p y))
+        let b = sym (first-is n (λ k. badId R (rows k)) i h (bad-here R rows i texts₀ lens₀ keys₀ texts lens keys (st .formed) _ after made id-is q w y) (st .named)) in
+        (at-5 R rows n end len i b h, formed-is R rows i _ texts₀ lens₀ keys₀ after lens keys b (formed-bad R rows i texts₀ lens₀ keys₀ texts lens keys (st .formed) _ after made id-is q w y))
 
 -- past its last row
-module _ (R : IdRules) (L : Lawful R) (rows : ℕ → Row) (end len n i out : ℕ) (texts₀ lens₀ keys₀ texts lens keys : List ℕ) (st : Staged R rows end len i out texts₀ lens₀ keys₀ texts lens keys) (z : i ≡ n) (room : Room n texts₀ lens₀ keys₀) where
+module _ (R : IdRules) (L : Lawful R) (rows : ℕ → Row) (end len n i out : ℕ) (texts₀ lens₀ keys₀ texts lens keys : List ℕ) (st : Staged R rows end len i out texts₀ lens₀ keys₀ texts lens keys) (below : i ≤ n) (past : n ≤ i) (room : Room n texts₀ lens₀ keys₀) where
   whole : Staged R rows end len n out texts₀ lens₀ keys₀ texts lens keys
-  whole = subst (λ k. Staged R rows end len k out texts₀ lens₀ keys₀ texts lens keys) z st
+  whole = subst (λ k. Staged R rows end len k out texts₀ lens₀ keys₀ texts lens keys) (omega arith) st
 
   pub staged-texts : Texts R texts lens keys n
   staged-texts = formed-texts R L rows n texts₀ lens₀ keys₀ texts lens keys room (whole .formed) (whole .named)
@@ -150,65 +163,63 @@ module _ (R : IdRules) (L : Lawful R) (rows : ℕ → Row) (end len n i out : �
         formed-is R rows n _ texts₀ lens₀ keys₀ texts lens keys none (w .formed),
       )
 
--- ---- 1 to 8
+-- ---- 1 to 4
 
 module _ (R : IdRules) (s : List ℕ) where
-  -- a refusal is what the check gives
-  pub refused : (number place : ℕ) → 0 < number → stop number place ≡ bundleStop R s → _≡_ {A = Checked} (record { number = number; place = place; count = 0 }) (check R s)
-  unfolding check
-  refused zero place h e = absurd (omega arith)
-  refused (suc k) place h e =
-      let c = sym (unrefused-stop (bundleStop R s) (count s) k (ap (λ t. t .number) (sym e))) in
-      λ i. record { number = e i .number; place = e i .place; count = c i }
+  pub head-refused : (r : ℕ) → stop r 0 ≡ headStop s → 0 < r → Tabled R s r 0 0 0
+  unfolding bundleStop formsOf made
+  head-refused r e h = record {
+    stops = λ h. (stops-first (headStop s) _ r 0 h e, none-left (headStop s ⨾ tableStop s) r 0 _ h (stops-first (headStop s) (tableStop s) r 0 h e));
+    passes = λ z. absurd (omega arith);
+  }
 
-  module _ (r : ℕ) (e : stop r 0 ≡ headStop s) where
-    pub head-stops : 0 < r → stop r 0 ≡ bundleStop R s
+  module _ (head : headStop s ≡ go) (n bad : ℕ) (q : n ≡ count s) (b : bad ≡ first n (λ i. badRow s (rowStart s i))) where
+    past-3 : (u : Stop) → u ≡ tableStop s ⨾ rowsStop R (tableEnd s) (length s) (count s) (row s) → u ≡ bundleStop R s
     unfolding bundleStop
-    head-stops h = stops-first (headStop s) _ r 0 h e
+    past-3 u p = rw head (p ∙ sym (⨾-go _))
 
-    pub head-forms : 0 < r → formsOf R s ≡ 0
-    unfolding formsOf made
-    head-forms h = none-left (headStop s ⨾ tableStop s) r 0 _ h (stops-first (headStop s) (tableStop s) r 0 h e)
+    bad-is : bad ≡ first (count s) (λ i. badRow s (rowStart s i))
+    bad-is = rw q at b
 
-    module _ (z : r ≡ 0) (n bad end : ℕ) (q : n ≡ count s) (t : Tabled s n bad end) where
-      head-goes : headStop s ≡ go
-      head-goes = sym e ∙ ap (λ k. stop k 0) z
+    pub table-refused : bad < n → Tabled R s 4 bad 0 0
+    unfolding tableStop formsOf made
+    table-refused h =
+        let g : headStop s ⨾ tableStop s ≡ stop 4 bad = rw head (⨾-go (tableStop s) ∙ stopAt-found 4 (count s) _ bad bad-is (omega arith)) in
+        record {
+          stops = λ z. (past-3 _ (found-at 3 (count s) _ bad _ bad-is (omega arith)), unrefused-stop (headStop s ⨾ tableStop s) _ 3 (ap (λ (u : Stop). u .number) g));
+          passes = λ z. absurd (omega arith);
+        }
 
-      past-3 : (u : Stop) → u ≡ tableStop s ⨾ rowsStop R (tableEnd s) (length s) (count s) (row s) → u ≡ bundleStop R s
-      unfolding bundleStop
-      past-3 u p = rw head-goes (p ∙ sym (⨾-go _))
+    pub table-passed : n ≤ bad → (end : ℕ) → end ≡ rowStart s n → Tabled R s 0 0 n end
+    unfolding tableStop tableEnd formsOf made
+    table-passed none end e =
+        let g : headStop s ⨾ tableStop s ≡ go = rw head (⨾-go (tableStop s) ∙ stopAt-clear 4 (count s) _ bad bad-is (omega arith)) in
+        record {
+          stops = λ h. absurd (omega arith);
+          passes = λ z. record {
+            few = omega (arith, q, counted s (ap (λ (u : Stop). u .number) head) .1);
+            count-is = q;
+            fits = λ k h. rowFits s (rowStart s k) .0 (first-before n (λ i. badRow s (rowStart s i)) k (omega (arith, b)));
+            rest = ap₂ (λ x y. rowsStop R x (length s) y (row s)) (e ∙ ap (rowStart s) q) q ∙ past-3 _ (past 4 (count s) _ bad _ _ bad-is (omega arith) refl);
+            forms = ap (λ m. first m (λ i. badId R (row s i))) q ∙ sym (unrefused-go (headStop s ⨾ tableStop s) _ (ap (λ (u : Stop). u .number) g));
+          };
+        }
 
-      bad-is : bad ≡ first (count s) (λ i. badRow s (rowStart s i))
-      bad-is = rw q at (t .bad-is)
+pub passed-room : (R : IdRules) (s : List ℕ) (n end : ℕ) → Passed R s n end → (texts lens keys : List ℕ) → (count s ≤ 64 → Room (count s) texts lens keys) → Room n texts lens keys
+passed-room R s n end p texts lens keys room = rw (p .count-is) (room (omega (arith, p .few, p .count-is)))
 
-      pub table-stops : bad < n → stop 4 bad ≡ bundleStop R s
-      unfolding tableStop
-      table-stops h = past-3 _ (found-at 3 (count s) _ bad _ bad-is (omega arith))
+-- ---- the answer
 
-      pub table-forms : bad < n → formsOf R s ≡ 0
-      unfolding formsOf made tableStop
-      table-forms h =
-          let g : headStop s ⨾ tableStop s ≡ stop 4 bad = rw head-goes (⨾-go (tableStop s) ∙ stopAt-found 4 (count s) _ bad bad-is (omega arith)) in
-          unrefused-stop (headStop s ⨾ tableStop s) _ 3 (ap (λ (u : Stop). u .number) g)
+module _ (R : IdRules) (s : List ℕ) (number place : ℕ) (e : stop number place ≡ bundleStop R s) where
+  pub checked-is : (n : ℕ) → n ≡ count s → _≡_ {A = Checked} (record { number = number; place = place; count = unrefused (stop number place) n }) (check R s)
+  unfolding check
+  checked-is n q = ap₂ (λ (t : Stop) m. record { number = t .number; place = t .place; count = unrefused t m }) e q
 
-      module _ (none : n ≤ bad) where
-        pub past-4 : rowsStop R end (length s) n (row s) ≡ bundleStop R s
-        unfolding tableStop tableEnd
-        past-4 =
-            ap₂ (λ x y. rowsStop R x (length s) y (row s)) (t .end-is none ∙ ap (rowStart s) q) q
-            ∙ past-3 _ (past 4 (count s) _ bad _ _ bad-is (omega arith) refl)
-
-        pub table-forms-all : first n (λ i. badId R (row s i)) ≡ formsOf R s
-        unfolding formsOf made tableStop
-        table-forms-all =
-            let g : headStop s ⨾ tableStop s ≡ go = rw head-goes (⨾-go (tableStop s) ∙ stopAt-clear 4 (count s) _ bad bad-is (omega arith)) in
-            ap (λ m. first m (λ i. badId R (row s i))) q ∙ sym (unrefused-go (headStop s ⨾ tableStop s) _ (ap (λ (u : Stop). u .number) g))
-
-        pub all : (number place : ℕ) → stop number place ≡ bundleStop R s → number ≡ 0 → _≡_ {A = Checked} (record { number = number; place = place; count = n }) (check R s)
-        unfolding check
-        all number place u y =
-            let c : n ≡ unrefused (bundleStop R s) (count s) = q ∙ sym (unrefused-go (bundleStop R s) (count s) (ap (λ t. t .number) (sym u) ∙ y)) in
-            λ i. record { number = u i .number; place = u i .place; count = c i }
+  -- a refusal has no count
+  pub refused-is : 0 < number → _≡_ {A = Checked} (record { number = number; place = place; count = 0 }) (check R s)
+  refused-is h =
+      ap (λ (c : ℕ). record { number = number; place = place; count = c }) (sym (none-left (stop number place) number place (count s) h refl))
+      ∙ checked-is (count s) refl
 
 -- what was checked, with its rows
 module _ (R : IdRules) (s : List ℕ) (c : Checked) (q : c ≡ check R s) where
@@ -291,12 +302,6 @@ module _ (R : IdRules) (L : Lawful R) (s texts₀ lens₀ texts lens : List ℕ)
       rows-are = λ z. rows-are s (e .count) (e .rows) (rows-held z);
       held = forms-held;
     }
-
-pub examination-of : (R : IdRules) → Lawful R → (s texts₀ lens₀ keys₀ texts lens keys : List ℕ) (c : Checked)
-    → (c ≡ check R s) × Formed R (row s) (formsOf R s) texts₀ lens₀ keys₀ texts lens keys → (count s ≤ 64 → Room (count s) texts₀ lens₀ keys₀)
-    → Examination R s texts lens (c .number) (c .place) (c .count) (rowsIn s (c .count))
-examination-of R L s texts₀ lens₀ keys₀ texts lens keys c f room =
-    examination R L s texts₀ lens₀ texts lens (with-rows R s c (f .0)) (examined-is R s c (f .0)) (f .1 .texts-are) (f .1 .lens-are) (λ h. (room h .texts-room, room h .lens-room))
 
 -- what `examine` promises, in these words
 pub examine-says : (R : IdRules) → Lawful R → (s texts₀ lens₀ texts lens : List ℕ) (e : Examined)

@@ -4,19 +4,20 @@ use mathlib.Core.Path.{_≡_}
 use mathlib.Core.Bool.{Bool, true, false, _||_}
 use mathlib.Core.List.{List}
 use lib.Dec.{eqb, ltb}
-use lib.ListN.{length, getD, set}
-use Rattle.wire.specs.Bytes.{empty, overwrite}
+use lib.ListN.{length, getD}
+use Rattle.wire.specs.Bytes.{empty}
 use Rattle.wire.specs.First.{first}
 use Rattle.wire.specs.Stop.{Stop, stop}
 use Rattle.entry_id.specs.Canonical.{headKey}
 use Rattle.entry_id.specs.IdRules.{IdRules}
 use Rattle.bundle.specs.Table.{Row, count, rowStart, row}
-use Rattle.bundle.specs.Check.{badRow, badId, outside, unrefused, bundleStop}
-use Rattle.bundle.specs.Accepted.{RowFits}
-use Rattle.bundle.specs.Records.{noRecord, rowsOf}
+use Rattle.bundle.specs.Check.{badId, outside, unrefused, rowsStop, bundleStop}
+use Rattle.bundle.specs.Accepted.{RowFits, Accepted}
+use Rattle.bundle.specs.Records.{rowsOf}
+use Rattle.bundle.specs.declared.Checked.{Checked}
 use Rattle.bundle.specs.declared.EntryRecord.{EntryRecord}
 use Rattle.entry_compare.specs.declared.Relation.{Relation}
-use Rattle.bundle_reader.specs.Examined.{filled, slots, text, form, formLength, rowsIn}
+use Rattle.bundle_reader.specs.Examined.{filled, slots, text, form, formLength, rowsIn, formsOf}
 
 -- ---- rows
 
@@ -26,19 +27,22 @@ pub record Rows (s : List ℕ) (n : ℕ) (rows : List EntryRecord) : Type 0 wher
   pub fits : (k : ℕ) → k < n → RowFits s (rowStart s k)
   pub are : rows ≡ rowsIn s n
 
--- the first bad row of n, or n; where none is bad, the table's end
-pub record Tabled (s : List ℕ) (n bad end : ℕ) : Type 0 where
-  pub bad-is : bad ≡ first n (λ i. badRow s (rowStart s i))
-  pub end-is : n ≤ bad → end ≡ rowStart s n
+-- a bundle of n rows with a table that ends at `end`, which 1 to 4 do not refuse: what 5 to 8 say of it, and how many forms are made
+pub record Passed (R : IdRules) (s : List ℕ) (n end : ℕ) : Type 0 where
+  pub few : n ≤ 64
+  pub count-is : n ≡ count s
+  pub fits : (k : ℕ) → k < n → RowFits s (rowStart s k)
+  pub rest : rowsStop R end (length s) n (row s) ≡ bundleStop R s
+  pub forms : first n (λ i. badId R (row s i)) ≡ formsOf R s
+
+-- what 1 to 4 say
+pub record Tabled (R : IdRules) (s : List ℕ) (number place n end : ℕ) : Type 0 where
+  pub stops : 0 < number → (stop number place ≡ bundleStop R s) × (formsOf R s ≡ 0)
+  pub passes : number ≡ 0 → Passed R s n end
 
 -- the first of i + 1 places with a property, where r is the first of i, or i, and b says whether the last has it
 unfoldable pub firstMore : ℕ → ℕ → Bool → ℕ
 firstMore r i b = elim (ltb r i || b) [ true ↦ r | false ↦ i + 1 ]
-
--- the ID parts of n records lie in `ids`
-pub record IdsIn (ids : List ℕ) (n : ℕ) (rows : List EntryRecord) : Type 0 where
-  pub few : n ≤ 64
-  pub inside : (k : ℕ) → k < n → getD rows k noRecord .«id_start» + getD rows k noRecord .«id_len» ≤ length ids
 
 -- ---- canonical IDs, each in a slot of 256 bytes, with its length and its head's number
 
@@ -48,24 +52,11 @@ pub record Room (n : ℕ) (texts lens keys : List ℕ) : Type 0 where
   pub lens-room : n ≤ length lens
   pub keys-room : n ≤ length keys
 
--- l with v in place i, if at all
-abbrev pub setIf : Bool → List ℕ → ℕ → ℕ → List ℕ
-setIf true l i v = set l i v
-setIf false l i v = l
-
 -- the first m were made
 pub record Formed (R : IdRules) (rows : ℕ → Row) (m : ℕ) (texts₀ lens₀ keys₀ texts lens keys : List ℕ) : Type 0 where
   pub texts-are : texts ≡ slots texts₀ m (form R rows)
   pub lens-are : lens ≡ filled lens₀ m (formLength R rows)
   pub keys-are : keys ≡ filled keys₀ m (λ k. headKey (form R rows k))
-
--- one was made, of an ID, in slot i, where it has one
-pub record Placed (R : IdRules) (id : List ℕ) (i : ℕ) (texts₀ lens₀ keys₀ texts lens keys : List ℕ) (ok : Bool) : Type 0 where
-  pub bad : ok ≡ false → empty (R .canon id) ≡ true
-  pub fine : ok ≡ true → empty (R .canon id) ≡ false
-  pub texts-are : texts ≡ overwrite texts₀ (i * 256) (R .canon id)
-  pub lens-are : lens ≡ setIf ok lens₀ i (length (R .canon id))
-  pub keys-are : keys ≡ setIf ok keys₀ i (headKey (R .canon id))
 
 -- of i rows each was made, none broke the rules, and `out` is the first row outside, or i
 pub record Staged (R : IdRules) (rows : ℕ → Row) (end len i out : ℕ) (texts₀ lens₀ keys₀ texts lens keys : List ℕ) : Type 0 where
@@ -107,6 +98,18 @@ abbrev pub relations : IdRules → List ℕ → List ℕ → Relation
 relations R a b = record { same = relation R true a b; mixed = relation R false a b }
 
 -- ---- what is left of it
+
+-- an accepted bundle of n entries, with its canonical IDs in their slots
+pub record Pickable (R : IdRules) (s texts lens keys : List ℕ) (n : ℕ) : Type 0 where
+  pub sound : Accepted R s
+  pub count-is : n ≡ count s
+  pub held : (k : ℕ) → k < n → Held R (row s) texts lens k
+  pub texts-are : Texts R texts lens keys n
+
+-- a bundle that was checked; where nothing refuses it, that
+pub record Known (R : IdRules) (s texts lens keys : List ℕ) (c : Checked) : Type 0 where
+  pub stop-is : stop (c .number) (c .place) ≡ bundleStop R s
+  pub pickable : c .number ≡ 0 → Pickable R s texts lens keys (c .count)
 
 -- what refuses n rows; where nothing does, their canonical IDs
 pub record Judged (R : IdRules) (t : Stop) (rows : ℕ → Row) (n : ℕ) (texts lens : List ℕ) (number place : ℕ) : Type 0 where

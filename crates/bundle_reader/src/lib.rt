@@ -1,31 +1,35 @@
 // The check of a bundle, and the pick of the image for a device name.
 ghost use mathlib.Core.Path.{_≡_};
 ghost use mathlib.Core.Bool.{true, false};
+ghost use mathlib.Core.List.{List};
 ghost use Prim.Native.Nat.{ℕ, _+_, _*_, _-_, _<_, _≤_};
-ghost use lib.ListN.{length, getD, take, drop, replicate};
-ghost use Rattle.wire.specs.Bytes.{same, overwrite};
+ghost use lib.Dec.{ltb};
+ghost use lib.ListN.{length, take, drop, replicate};
+ghost use Rattle.wire.specs.Bytes.{overwrite};
 ghost use Rattle.wire.specs.First.{first};
-ghost use Rattle.wire.specs.Stop.{stop, _⨾_, stopAt, earlier};
+ghost use Rattle.wire.specs.Stop.{go, stop, _⨾_, stopIf, stopAt, earlier};
 ghost use Rattle.entry_id.specs.Canonical.{headKey};
 ghost use Rattle.entry_id.specs.Rules.{idRules};
-ghost use Rattle.bundle.specs.Table.{magic, count, rowStart, row};
-ghost use Rattle.bundle.specs.Check.{badRow, badId, outside, headStop, rowsStop, check};
+ghost use Rattle.bundle.specs.Table.{count, rowStart, row};
+ghost use Rattle.bundle.specs.Check.{badRow, outside, unrefused, headStop, check};
 ghost use Rattle.bundle.specs.Pick.{pick};
 ghost use Rattle.bundle.specs.Accepted.{RowFits};
 ghost use Rattle.bundle.specs.Theorems.{refusal};
-ghost use Rattle.bundle.specs.Records.{noRecord, recordAt, rowOf, rowsOf, badPart};
+ghost use Rattle.bundle.specs.Records.{noRecord, recordAt, rowsOf, badPart};
 ghost use Rattle.canonical_form.specs.Made.{formOf};
 ghost use Rattle.bundle_reader.specs.Examined.{filled, slots, text, form, formLength, heldRow, rowsIn, examined, formsOf, examinedRecords, formsOfRecords};
-ghost use Rattle.bundle_reader.specs.Slots.{Tabled, firstMore, IdsIn, Room, Formed, Placed, Canonical, Texts, near, relation, relations};
+ghost use Rattle.bundle_reader.specs.Slots.{Tabled, firstMore, Room, Formed, Canonical, Texts, Pickable, Known, near, relation, relations};
 use bundle::Checked;
 use bundle::EntryRecord;
 use bundle::Picked;
 use canonical_form::Form;
 use entry_compare::Relation;
 
-// The first bad row of a table, or the count; where no row is bad, the table's end.
+// The table of a bundle: what of 1 to 4 refuses it; where nothing does, 0, 0, the count and where the table ends.
 struct Table {
-    bad: usize,
+    number: usize,
+    place: usize,
+    count: usize,
     end: usize,
 }
 
@@ -43,13 +47,6 @@ pub struct Examined {
     pub rows: [EntryRecord; 64],
 }
 
-fn magic_is(s: &[u8]) -> bool
-    requires { ⌜ 24 ≤ length (now s) ⌝ }
-    ensures { λ r. ⌜ r ≡ same (take 24 (now (s .entry))) magic ⌝ }
-{
-    wire_read::same_bytes(&s[..24], b"__CLANG_OFFLOAD_BUNDLE__")
-}
-
 // 1 LENGTH, 2 MAGIC, 3 COUNT, or 0.
 fn head(s: &[u8]) -> usize
     ensures { λ r. ⌜ stop r 0 ≡ headStop (now (s .entry)) ⌝ }
@@ -60,7 +57,7 @@ fn head(s: &[u8]) -> usize
     if s.len() < 24 {
         return 2;
     }
-    if !magic_is(s) {
+    if !wire_read::same_bytes(&s[..24], b"__CLANG_OFFLOAD_BUNDLE__") {
         return 2;
     }
     if s.len() < 32 {
@@ -122,21 +119,47 @@ pub fn no_records() -> [EntryRecord; 64]
     [none; 64]
 }
 
-// The table of n rows: its first bad row, or its end. Only lengths are read.
+// 4, of a table of n rows. Only lengths are read.
 fn table_end(s: &[u8], n: usize) -> Table
-    requires { ⌜ 32 ≤ length (now s) ⌝ }
-    ensures { λ r. ⌜ Tabled (now (s .entry)) n (r .bad) (r .end) ⌝ }
+    requires { ⌜ (headStop (now s) ≡ go) × (n ≡ count (now s)) ⌝ }
+    ensures { λ r. ⌜ Tabled idRules (now (s .entry)) (r .number) (r .place) (r .count) (r .end) ⌝ }
 {
     let mut i: usize = 0;
     let mut at: usize = 32;
     while i < n {
         if bad_row(s, at) {
-            return Table { bad: i, end: 0 };
+            return Table {
+                number: 4,
+                place: i,
+                count: 0,
+                end: 0,
+            };
         }
         at = at + 24 + wire_read::word8_at(s, at + 16) as usize;
         i += 1;
     }
-    Table { bad: i, end: at }
+    Table {
+        number: 0,
+        place: 0,
+        count: n,
+        end: at,
+    }
+}
+
+// 1 to 4.
+fn frame(s: &[u8]) -> Table
+    ensures { λ r. ⌜ Tabled idRules (now (s .entry)) (r .number) (r .place) (r .count) (r .end) ⌝ }
+{
+    let number = head(s);
+    if 0 < number {
+        return Table {
+            number,
+            place: 0,
+            count: 0,
+            end: 0,
+        };
+    }
+    table_end(s, wire_read::word8_at(s, 24) as usize)
 }
 
 // 6 RANGE, of a row's image, in a container of `len` bytes. The sum is never made, so it cannot wrap.
@@ -171,21 +194,6 @@ fn bad_part(row: EntryRecord, room: usize) -> bool
     room - start < len
 }
 
-// 4 TABLE: the first of n records whose ID does not lie in a buffer of `room` bytes, or n.
-fn first_bad_part(rows: [EntryRecord; 64], n: usize, room: usize) -> usize
-    requires { ⌜ n ≤ 64 ⌝ }
-    ensures { λ r. ⌜ r ≡ first n (λ i. badPart room (recordAt rows i)) ⌝ }
-{
-    let mut i: usize = 0;
-    while i < n {
-        if bad_part(rows[i], room) {
-            return i;
-        }
-        i += 1;
-    }
-    i
-}
-
 // The first of i places with a property, and the next one, where that of the i places is `first` and the next has the property or not.
 fn first_of(first: usize, i: usize, holds: bool) -> usize
     requires { ⌜ i < 64 ⌝ }
@@ -215,28 +223,6 @@ fn canonical_at(s: &[u8], start: usize, len: usize, texts: &mut [u8], i: usize) 
 {
     let from = i * 256;
     canonical_form::canonical(&s[start..start + len], &mut texts[from..from + 256])
-}
-
-// 5 ID: whether a row's ID keeps the rules; then slot i has its canonical form, with the length and the number beside it.
-fn place_form(
-    ids: &[u8],
-    row: EntryRecord,
-    texts: &mut [u8],
-    lens: &mut [usize],
-    keys: &mut [u64],
-    i: usize,
-) -> bool
-    requires { ⌜ (row .«id_start» + row .«id_len» ≤ length (now ids)) × Room (i + 1) (now texts) (now lens) (now keys) × (i < 64) ⌝ }
-    ensures { λ r. ⌜ Placed idRules (rowOf (now (ids .entry)) row .id) i (now (texts .entry)) (now (lens .entry)) (now (keys .entry)) (now (texts .exit)) (now (lens .exit)) (now (keys .exit)) r ⌝ }
-{
-    let made = canonical_at(ids, row.id_start, row.id_len, texts, i);
-    let len = made.length;
-    if len == 0 {
-        return false;
-    }
-    lens[i] = len;
-    keys[i] = made.key;
-    true
 }
 
 // The text of slot k: the slots of `texts` have 256 bytes each, `lens` has the lengths of what they hold.
@@ -272,12 +258,17 @@ fn related(texts: &[u8], lens: &[usize], keys: &[u64], j: usize, i: usize) -> Re
     entry_compare::relation_of(slot(texts, lens, j), slot(texts, lens, i))
 }
 
-// The first slot with the number of slot i, or i.
-fn near_at(keys: &[u64], i: usize) -> usize
-    requires { ⌜ i < length (now keys) ⌝ }
+// The first slot with the number of slot i, or i; for the slot before it is `last`.
+fn near_next(keys: &[u64], i: usize, last: usize) -> usize
+    requires { ⌜ (i < length (now keys)) × (0 < i → last ≡ near (now keys) (i - 1)) ⌝ }
     ensures { λ r. ⌜ r ≡ near (now (keys .entry)) i ⌝ }
 {
     let key = keys[i];
+    if 0 < i {
+        if keys[i - 1] == key {
+            return last;
+        }
+    }
     let mut j: usize = 0;
     while j < i {
         if keys[j] == key {
@@ -286,19 +277,6 @@ fn near_at(keys: &[u64], i: usize) -> usize
         j += 1;
     }
     j
-}
-
-// That, where it is `last` for the slot before.
-fn near_next(keys: &[u64], i: usize, last: usize) -> usize
-    requires { ⌜ (i < length (now keys)) × (0 < i → last ≡ near (now keys) (i - 1)) ⌝ }
-    ensures { λ r. ⌜ r ≡ near (now (keys .entry)) i ⌝ }
-{
-    if 0 < i {
-        if keys[i - 1] == keys[i] {
-            return last;
-        }
-    }
-    near_at(keys, i)
 }
 
 // How the texts of earlier slots stand to that of slot i: whether one has the same meaning; else whether one is mixed with it. None before `from` has the number of slot i.
@@ -325,11 +303,14 @@ fn refused(number: usize, place: usize) -> Refusal
     Refusal { number, place }
 }
 
-// 7 and 8: the first that refuses n slots; else 0.
-fn compare(texts: &[u8], lens: &[usize], keys: &[u64], n: usize) -> Refusal
+// 6 to 8: the first that refuses n slots, of whose rows `out` is the first outside, or n; else 0.
+fn compare(out: usize, texts: &[u8], lens: &[usize], keys: &[u64], n: usize) -> Refusal
     requires { ⌜ Texts idRules (now texts) (now lens) (now keys) n × (n ≤ 64) ⌝ }
-    ensures { λ r. ⌜ stop (r .number) (r .place) ≡ stopAt 7 n (earlier (relation idRules true) (text (now (texts .entry)) (now (lens .entry)))) ⨾ stopAt 8 n (earlier (relation idRules false) (text (now (texts .entry)) (now (lens .entry)))) ⌝ }
+    ensures { λ r. ⌜ (out < n → stop (r .number) (r .place) ≡ stop 6 out) × (n ≤ out → stop (r .number) (r .place) ≡ stopAt 7 n (earlier (relation idRules true) (text (now (texts .entry)) (now (lens .entry)))) ⨾ stopAt 8 n (earlier (relation idRules false) (text (now (texts .entry)) (now (lens .entry))))) ⌝ }
 {
+    if out < n {
+        return refused(6, out);
+    }
     let mut i: usize = 0;
     let mut from: usize = 0;
     let mut mix: usize = 0;
@@ -348,41 +329,21 @@ fn compare(texts: &[u8], lens: &[usize], keys: &[u64], n: usize) -> Refusal
     refused(0, 0)
 }
 
-// 6 to 8: the first that refuses n slots, of whose rows `out` is the first outside, or n; else 0.
-fn relate(out: usize, texts: &[u8], lens: &[usize], keys: &[u64], n: usize) -> Refusal
-    requires { ⌜ Texts idRules (now texts) (now lens) (now keys) n × (n ≤ 64) ⌝ }
-    ensures { λ r. ⌜ (out < n → stop (r .number) (r .place) ≡ stop 6 out) × (n ≤ out → stop (r .number) (r .place) ≡ stopAt 7 n (earlier (relation idRules true) (text (now (texts .entry)) (now (lens .entry)))) ⨾ stopAt 8 n (earlier (relation idRules false) (text (now (texts .entry)) (now (lens .entry))))) ⌝ }
+// 3 and 4: the first that refuses n records whose IDs lie in a buffer of `room` bytes; else 0.
+fn bad_parts(rows: [EntryRecord; 64], n: usize, room: usize) -> Refusal
+    ensures { λ r. ⌜ stop (r .number) (r .place) ≡ stopIf 3 (ltb 64 n) ⨾ stopAt 4 n (λ i. badPart room (recordAt rows i)) ⌝ }
 {
-    if out < n {
-        return refused(6, out);
+    if 64 < n {
+        return refused(3, 0);
     }
-    compare(texts, lens, keys, n)
-}
-
-// 5 to 8: the first that refuses n records, with images in a buffer of `len` bytes; else 0.
-fn judge(
-    ids: &[u8],
-    rows: [EntryRecord; 64],
-    n: usize,
-    len: usize,
-    texts: &mut [u8],
-    lens: &mut [usize],
-    keys: &mut [u64],
-) -> Refusal
-    requires { ⌜ IdsIn (now ids) n rows × Room n (now texts) (now lens) (now keys) ⌝ }
-    ensures { λ r. ⌜ (stop (r .number) (r .place) ≡ rowsStop idRules 0 len n (rowsOf (now (ids .entry)) rows)) × Formed idRules (rowsOf (now (ids .entry)) rows) (first n (λ i. badId idRules (rowsOf (now (ids .entry)) rows i))) (now (texts .entry)) (now (lens .entry)) (now (keys .entry)) (now (texts .exit)) (now (lens .exit)) (now (keys .exit)) ⌝ }
-{
     let mut i: usize = 0;
-    let mut out: usize = 0;
     while i < n {
-        let row = rows[i];
-        if !place_form(ids, row, texts, lens, keys, i) {
-            return refused(5, i);
+        if bad_part(rows[i], room) {
+            return refused(4, i);
         }
-        out = first_outside(out, i, row, 0, len);
         i += 1;
     }
-    relate(out, texts, lens, keys, n)
+    refused(0, 0)
 }
 
 fn examine_records_in(
@@ -397,14 +358,26 @@ fn examine_records_in(
     requires { ⌜ Room 64 (now texts) (now lens) (now keys) ⌝ }
     ensures { λ r. ⌜ (r ≡ examinedRecords idRules (now (ids .entry)) len n rows) × Formed idRules (rowsOf (now (ids .entry)) rows) (formsOfRecords idRules (now (ids .entry)) n rows) (now (texts .entry)) (now (lens .entry)) (now (keys .entry)) (now (texts .exit)) (now (lens .exit)) (now (keys .exit)) ⌝ }
 {
-    if 64 < n {
-        return refused(3, 0);
+    let bad = bad_parts(rows, n, ids.len());
+    let number = bad.number;
+    if 0 < number {
+        return bad;
     }
-    let bad = first_bad_part(rows, n, ids.len());
-    if bad < n {
-        return refused(4, bad);
+    let mut i: usize = 0;
+    let mut out: usize = 0;
+    while i < n {
+        let row = rows[i];
+        let made = canonical_at(ids, row.id_start, row.id_len, texts, i);
+        let size = made.length;
+        if size == 0 {
+            return refused(5, i);
+        }
+        lens[i] = size;
+        keys[i] = made.key;
+        out = first_outside(out, i, row, 0, len);
+        i += 1;
     }
-    judge(ids, rows, n, len, texts, lens, keys)
+    compare(out, texts, lens, keys, n)
 }
 
 // 3 to 8 of n records, with IDs in `ids` and images in a buffer of `len` bytes: the first that refuses them; else 0, and the canonical IDs in their slots.
@@ -436,35 +409,10 @@ fn not_checked(number: usize, place: usize) -> Checked
     }
 }
 
-// 1 to 8 of a bundle, with the canonical IDs in their slots. Each row is read once, when its turn comes.
-fn check_in(s: &[u8], texts: &mut [u8], lens: &mut [usize], keys: &mut [u64]) -> Checked
-    requires { ⌜ (count (now s) ≤ 64 → Room (count (now s)) (now texts) (now lens) (now keys)) ⌝ }
-    ensures { λ r. ⌜ (r ≡ check idRules (now (s .entry))) × Formed idRules (row (now (s .entry))) (formsOf idRules (now (s .entry))) (now (texts .entry)) (now (lens .entry)) (now (keys .entry)) (now (texts .exit)) (now (lens .exit)) (now (keys .exit)) ⌝ }
+// The check of a bundle of n entries that r refuses, or nothing does.
+fn checked(r: Refusal, n: usize) -> Checked
+    ensures { λ a. ⌜ a ≡ record { number = r .number; place = r .place; count = unrefused (stop (r .number) (r .place)) n } ⌝ }
 {
-    let first = head(s);
-    if 0 < first {
-        return not_checked(first, 0);
-    }
-    let n = wire_read::word8_at(s, 24) as usize;
-    let t = table_end(s, n);
-    let bad = t.bad;
-    if bad < n {
-        return not_checked(4, bad);
-    }
-    let end = t.end;
-    let mut i: usize = 0;
-    let mut at: usize = 32;
-    let mut out: usize = 0;
-    while i < n {
-        let row = row_at(s, at);
-        at = row.id_start + row.id_len;
-        if !place_form(s, row, texts, lens, keys, i) {
-            return not_checked(5, i);
-        }
-        out = first_outside(out, i, row, end, s.len());
-        i += 1;
-    }
-    let r = relate(out, texts, lens, keys, n);
     let number = r.number;
     if 0 < number {
         return not_checked(number, r.place);
@@ -474,6 +422,36 @@ fn check_in(s: &[u8], texts: &mut [u8], lens: &mut [usize], keys: &mut [u64]) ->
         place: r.place,
         count: n,
     }
+}
+
+// 1 to 8 of a bundle, with the canonical IDs in their slots. Each row is read once, when its turn comes.
+fn check_in(s: &[u8], texts: &mut [u8], lens: &mut [usize], keys: &mut [u64]) -> Checked
+    requires { ⌜ (count (now s) ≤ 64 → Room (count (now s)) (now texts) (now lens) (now keys)) ⌝ }
+    ensures { λ r. ⌜ (r ≡ check idRules (now (s .entry))) × Formed idRules (row (now (s .entry))) (formsOf idRules (now (s .entry))) (now (texts .entry)) (now (lens .entry)) (now (keys .entry)) (now (texts .exit)) (now (lens .exit)) (now (keys .exit)) ⌝ }
+{
+    let t = frame(s);
+    let number = t.number;
+    if 0 < number {
+        return not_checked(number, t.place);
+    }
+    let n = t.count;
+    let mut i: usize = 0;
+    let mut at: usize = 32;
+    let mut out: usize = 0;
+    while i < n {
+        let row = row_at(s, at);
+        at = row.id_start + row.id_len;
+        let made = canonical_at(s, row.id_start, row.id_len, texts, i);
+        let size = made.length;
+        if size == 0 {
+            return not_checked(5, i);
+        }
+        lens[i] = size;
+        keys[i] = made.key;
+        out = first_outside(out, i, row, t.end, s.len());
+        i += 1;
+    }
+    checked(compare(out, texts, lens, keys, n), n)
 }
 
 // The table of n rows, none of which is bad.
@@ -493,12 +471,11 @@ fn read_table(s: &[u8], n: usize) -> [EntryRecord; 64]
     rows
 }
 
-// A refused bundle has no rows.
-fn examine_in(s: &[u8], texts: &mut [u8], lens: &mut [usize], keys: &mut [u64]) -> Examined
-    requires { ⌜ (count (now s) ≤ 64 → Room (count (now s)) (now texts) (now lens) (now keys)) ⌝ }
-    ensures { λ r. ⌜ (r ≡ examined idRules (now (s .entry))) × Formed idRules (row (now (s .entry))) (formsOf idRules (now (s .entry))) (now (texts .entry)) (now (lens .entry)) (now (keys .entry)) (now (texts .exit)) (now (lens .exit)) (now (keys .exit)) ⌝ }
+// What was checked, with its rows. A refused bundle has none.
+fn with_rows(s: &[u8], c: Checked) -> Examined
+    requires { ⌜ c ≡ check idRules (now s) ⌝ }
+    ensures { λ r. ⌜ r ≡ examined idRules (now (s .entry)) ⌝ }
 {
-    let c = check_in(s, texts, lens, keys);
     let count = c.count;
     Examined {
         number: c.number,
@@ -516,7 +493,8 @@ pub fn examine(bundle: &[u8], texts: &mut [u8; 16384], lens: &mut [usize; 64]) -
     ensures { λ _. ⌜ (length (now (texts .entry)) ≡ 16384) × (length (now (lens .entry)) ≡ 64) ⌝ }
 {
     let mut keys = [0u64; 64];
-    examine_in(bundle, texts, lens, &mut keys)
+    let c = check_in(bundle, texts, lens, &mut keys);
+    with_rows(bundle, c)
 }
 
 // The check of a bundle. Few entries need little scratch.
@@ -588,34 +566,38 @@ fn no_image(number: usize, place: usize) -> Picked
     }
 }
 
-fn pick_in(
-    s: &[u8],
-    device: &[u8],
-    texts: &mut [u8],
-    lens: &mut [usize],
-    keys: &mut [u64],
-    name: &mut [u8],
-) -> Picked
-    requires { ⌜ (count (now s) ≤ 64 → Room (count (now s)) (now texts) (now lens) (now keys)) × (length (now name) ≡ 256) ⌝ }
-    ensures { λ r. ⌜ r ≡ pick idRules (now (s .entry)) (now (device .entry)) ⌝ }
+// Row i of a table in which no row up to it is bad. On the way only lengths are read.
+fn row_of(s: &[u8], i: usize) -> EntryRecord
+    requires { ⌜ ((k : ℕ) → k ≤ i → RowFits (now s) (rowStart (now s) k)) ⌝ }
+    ensures { λ r. ⌜ r ≡ heldRow (now (s .entry)) (rowStart (now (s .entry)) i) ⌝ }
 {
-    let c = check_in(s, texts, lens, keys);
-    let number = c.number;
-    if 0 < number {
-        return no_image(number, c.place);
+    let mut k: usize = 0;
+    let mut at: usize = 32;
+    while k < i {
+        at = at + 24 + wire_read::word8_at(s, at + 16) as usize;
+        k += 1;
     }
-    let made = canonical_form::canonical(device, name);
-    let len = made.length;
-    if len == 0 {
-        return no_image(9, 0);
-    }
-    let n = c.count;
-    let i = first_compatible(texts, lens, keys, n, &name[..len], made.key);
+    row_at(s, at)
+}
+
+// The pick from an accepted bundle of n entries by a canonical device name, which has the number `key`.
+fn pick_named(
+    s: &[u8],
+    texts: &[u8],
+    lens: &[usize],
+    keys: &[u64],
+    n: usize,
+    name: &[u8],
+    key: u64,
+) -> Picked
+    requires { ⌜ Pickable idRules (now s) (now texts) (now lens) (now keys) n × Canonical idRules (now name) × (key ≡ headKey (now name)) ⌝ }
+    ensures { λ r. ⌜ ((device : List ℕ) → now (name .entry) ≡ idRules .canon device → r ≡ pick idRules (now (s .entry)) device) ⌝ }
+{
+    let i = first_compatible(texts, lens, keys, n, name, key);
     if n <= i {
         return no_image(10, 0);
     }
-    let rows = read_table(s, n);
-    let row = rows[i];
+    let row = row_of(s, i);
     Picked {
         number: 0,
         place: 0,
@@ -625,26 +607,59 @@ fn pick_in(
     }
 }
 
-// The pick of an image from a bundle by a device name. Few entries need little scratch.
+// The pick from a bundle that was checked.
+fn pick_checked(
+    c: Checked,
+    s: &[u8],
+    device: &[u8],
+    texts: &[u8],
+    lens: &[usize],
+    keys: &[u64],
+) -> Picked
+    requires { ⌜ Known idRules (now s) (now texts) (now lens) (now keys) c ⌝ }
+    ensures { λ r. ⌜ r ≡ pick idRules (now (s .entry)) (now (device .entry)) ⌝ }
+{
+    let number = c.number;
+    if 0 < number {
+        return no_image(number, c.place);
+    }
+    let mut name = [0u8; 256];
+    let made = canonical_form::canonical(device, &mut name);
+    let len = made.length;
+    if len == 0 {
+        return no_image(9, 0);
+    }
+    pick_named(s, texts, lens, keys, c.count, &name[..len], made.key)
+}
+
+// The pick from a bundle of few entries, which needs little scratch.
+fn pick_few(bundle: &[u8], device: &[u8]) -> Picked
+    requires { ⌜ count (now bundle) ≤ 8 ⌝ }
+    ensures { λ r. ⌜ r ≡ pick idRules (now (bundle .entry)) (now (device .entry)) ⌝ }
+{
+    let mut texts = [0u8; 2048];
+    let mut lens = [0usize; 8];
+    let mut keys = [0u64; 8];
+    let c = check_in(bundle, &mut texts, &mut lens, &mut keys);
+    pick_checked(c, bundle, device, &texts, &lens, &keys)
+}
+
+fn pick_many(bundle: &[u8], device: &[u8]) -> Picked
+    ensures { λ r. ⌜ r ≡ pick idRules (now (bundle .entry)) (now (device .entry)) ⌝ }
+{
+    let mut texts = [0u8; 16384];
+    let mut lens = [0usize; 64];
+    let mut keys = [0u64; 64];
+    let c = check_in(bundle, &mut texts, &mut lens, &mut keys);
+    pick_checked(c, bundle, device, &texts, &lens, &keys)
+}
+
+// The pick of an image from a bundle by a device name.
 pub fn pick(bundle: &[u8], device: &[u8]) -> Picked
     ensures { λ r. ⌜ r ≡ pick idRules (now (bundle .entry)) (now (device .entry)) ⌝ }
 {
-    let mut name = [0u8; 256];
     if wire_read::word8_at(bundle, 24) <= 8 {
-        let mut few = [0u8; 2048];
-        let mut few_lens = [0usize; 8];
-        let mut few_keys = [0u64; 8];
-        return pick_in(
-            bundle,
-            device,
-            &mut few,
-            &mut few_lens,
-            &mut few_keys,
-            &mut name,
-        );
+        return pick_few(bundle, device);
     }
-    let mut lens = [0usize; 64];
-    let mut keys = [0u64; 64];
-    let mut texts = [0u8; 16384];
-    pick_in(bundle, device, &mut texts, &mut lens, &mut keys, &mut name)
+    pick_many(bundle, device)
 }

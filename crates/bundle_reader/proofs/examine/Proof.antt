@@ -1,17 +1,21 @@
-use native.Mathlib.Omega.{arith}
 use borrow.Author.Needs.{needs}
+use native.Mathlib.Omega.{arith}
 use Rattle.bundle_reader.proofs.examine.Statement.{statement}
 use Rattle.bundle_reader.proofs.examine.Tie as tie
 
-slice-aggregate-examine-in : tie.Need-slice-aggregate-examine-in
-slice-aggregate-examine-in c = search needs
+slice-aggregate-check-in : tie.Need-slice-aggregate-check-in
+slice-aggregate-check-in c = search needs
 
-examine-in-requires : tie.Need-examine-in-requires
-examine-in-requires c κs = search needs
+check-in-requires : tie.Need-check-in-requires
+check-in-requires c κs = search needs
+
+with-rows-requires : tie.Need-with-rows-requires
+with-rows-requires c κs = c .before .check-in .ensures .0
 
 returns : tie.Need-returns
-returns c = let e = c .before .examine-in .ensures in
-    (e .0, (e .1 .texts-are, (e .1 .lens-are, (omega (arith, c .before .before .before .before .examine-in-arg .given), omega (arith, c .before .before .before .examine-in-arg2 .given)))))
+returns c = let e = c .before .before .check-in .ensures .1 in
+    (c .with-rows .ensures, (e .texts-are, (e .lens-are, (omega (arith, c .before .before .before .before .before .check-in-arg .given), omega (arith, c .before .before .before .before .check-in-arg2 .given)))))
 
 pub examine-spec : {M : Type 1} → statement M
-examine-spec = tie.close (tie.spec slice-aggregate-examine-in examine-in-requires returns)
+examine-spec =
+    tie.close (tie.spec slice-aggregate-check-in check-in-requires with-rows-requires returns)

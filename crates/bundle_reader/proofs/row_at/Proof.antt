@@ -1,3 +1,4 @@
+use Prim.Native.Nat.{_+_}
 use borrow.Author.Needs.{needs}
 use Rattle.bundle_reader.proofs.row_at.Statement.{statement}
 use Rattle.bundle_reader.proofs.row_at.Tie as tie
@@ -23,7 +24,11 @@ add-id c = search needs
 
 returns : tie.Need-returns
 unfolding heldRow
-returns c = cc
+returns c =
+    let offset = c .before .before .word8-at .ensures in
+    let size = c .before .word8-at2 .ensures in
+    let len = c .word8-at3 .ensures in
+    λ i. record { «id_start» = c .before .before .before .before .args .at + 24; «id_len» = len i; «image_start» = offset i; «image_len» = size i }
 
 pub row-at-spec : {M : Type 1} → statement M
 row-at-spec =

@@ -5,9 +5,13 @@ use mathlib.Core.Path.{_≡_, refl, sym, ap, _∙_}
 use mathlib.Core.Bool.{false}
 use borrow.Author.Count.{below-more, below-none}
 use lib.ListN.{length}
+use Rattle.wire.specs.Stop.{Stop}
+use Rattle.entry_id.specs.Rules.{idRules}
 use Rattle.bundle.specs.Table.{rowStart}
 use Rattle.bundle.specs.Check.{badRow}
-use Rattle.bundle_reader.proofs.RowLaws.{fine, next-start, tabled-bad, tabled-all}
+use Rattle.bundle.proofs.AcceptLaws.{counted}
+use Rattle.bundle_reader.proofs.RowLaws.{fine, next-start, bad-first, bad-none}
+use Rattle.bundle_reader.proofs.StageLaws.{table-refused, table-passed}
 use Rattle.bundle_reader.proofs.table_end.Statement.{statement}
 use Rattle.bundle_reader.proofs.table_end.Tie as tie
 
@@ -19,14 +23,15 @@ abbrev μ-loop : tie.MeasureT-loop
 
 loop-holds : tie.Need-loop-holds Inv-loop μ-loop
 unfolding rowStart
-loop-holds c = (omega arith, refl, omega arith, below-none _)
+loop-holds c = (omega arith, refl, counted _ (ap (λ (z : Stop). z .number) (c .before .pre .0)) .0, below-none _)
 
 bad-row-requires : tie.Need-bad-row-requires Inv-loop μ-loop
 bad-row-requires c κs = search needs
 
 returns : tie.Need-returns Inv-loop μ-loop
 returns c = let l = c .before .before .before .loop in
-    tabled-bad _ (l .i) (l .at) (l .inv .1) (l .inv .3) _ 0 _ (omega arith) (c .before .bad-row .ensures) (c .if1 .taken)
+    let p = c .before .before .before .before .before .pre in
+    table-refused idRules _ (p .0) _ (l .i) (p .1) (bad-first _ (l .i) (l .at) (l .inv .1) (l .inv .3) _ _ (omega arith) (c .before .bad-row .ensures) (c .if1 .taken)) (omega arith)
 
 add-at : tie.Need-add-at Inv-loop μ-loop
 add-at c = omega (arith, fine _ _ _ (c .before .bad-row .ensures) (c .if1 .left) .id-in)
@@ -58,7 +63,9 @@ loop-again c = let l = c .before .before .before .before .loop in
 
 returns-2 : tie.Need-returns-2 Inv-loop μ-loop
 returns-2 c = let l = c .before .loop in
-    tabled-all _ (l .i) (l .at) (l .inv .1) (l .inv .3) _ (omega arith)
+    let p = c .before .before .before .pre in
+    let z : l .i ≡ c .before .before .before .args .n = omega arith in
+    table-passed idRules _ (p .0) _ (l .i) (p .1) (bad-none _ (l .i) (l .at) (l .inv .1) (l .inv .3) _ z) (omega arith) _ (l .inv .1 ∙ ap (rowStart _) z)
 
 pub table-end-spec : {M : Type 1} → statement M
 table-end-spec =
