@@ -1,57 +1,68 @@
 -- What the writer's parts leave, one behind another. Assumes nothing.
-use Prim.Native.Nat.{ℕ, zero, suc, _+_, _*_, _-_, _<_, _≤_}
+use Prim.Native.Nat.{ℕ, zero, suc, _+_, _*_, _-_, _/_, _%_, _<_, _≤_}
+use native.Mathlib.Numerals.{add-one}
 use native.Mathlib.Omega.{arith}
 use mathlib.Core.Path.{_≡_, refl, sym, ap, ap₂, _∙_}
 use mathlib.Core.List.{List, [], _∷_, _++_}
-use lib.ListN.{length, length-append}
+use lib.ListN.{length, getD, drop, length-append, length-drop}
+use lib.Seq.{drop-cons}
 use Rattle.wire.specs.Word.{bytesOf}
 use Rattle.wire.specs.Bytes.{overwrite}
 use Rattle.wire.proofs.WordLaws.{length-bytesOf}
-use Rattle.wire.proofs.OverwriteLaws.{overwrite-nil, overwrite-then, length-overwrite}
+use Rattle.wire.proofs.OverwriteLaws.{overwrite-then}
 use Rattle.wire.specs.Lists.{tab}
 use Rattle.offload_binary.specs.Binary.{magic}
-use Rattle.offload_binary.specs.Contents.{Field, _∶_, fieldBytes, stringBytes, offsets}
+use Rattle.offload_binary.specs.Contents.{_∶_, fieldBytes, stringBytes, offsets}
 use Rattle.wire.proofs.TabLaws.{length-tab}
-use Rattle.offload_binary.proofs.WrittenLaws.{widths, length-fields, length-offsets}
-use Rattle.offload_binary_writer.specs.Code.{headerBytes, entryFields}
+use Rattle.offload_binary.proofs.WrittenLaws.{length-offsets}
+use Rattle.offload_binary_writer.specs.Code.{wordBytes, tagsWord, headWords}
 use Rattle.offload_binary.specs.declared.Tags.{Tags}
 use Rattle.offload_binary.proofs.TextLaws.{strings-more, length-more, offsets-more}
 
--- ---- numbers put one after another
+-- ---- header and entry
 
-unfoldable pub lays : List ℕ → ℕ → List Field → List ℕ
-lays d at [] = d
-lays d at (f ∷ fs) = lays (overwrite d at (bytesOf (f .width) (f .value))) (at + f .width) fs
+pub length-words : (ws : List ℕ) → length (wordBytes ws) ≡ 8 * length ws
+unfolding wordBytes
+length-words [] = refl
+length-words (w ∷ ws) = length-append (bytesOf 8 w) (wordBytes ws) ∙ omega (arith, length-bytesOf 8 w, length-words ws)
 
-lays-is : (fs : List Field) (d : List ℕ) (at : ℕ) → at + widths fs ≤ length d → lays d at fs ≡ overwrite d at (fieldBytes fs)
-unfolding lays fieldBytes widths
-lays-is [] d at h = sym (overwrite-nil d at)
-lays-is (f ∷ fs) d at h =
-    let b : List ℕ = bytesOf (f .width) (f .value) in
-    let l : length b ≡ f .width = length-bytesOf (f .width) (f .value) in
-    lays-is fs (overwrite d at b) (at + f .width) (omega (arith, length-overwrite d at b))
-    ∙ overwrite-then d at (at + f .width) b (fieldBytes fs) (omega arith) (omega (arith, length-fields fs))
+-- a turn: the word at i, and those behind it, are the words from i on
+pub words-turn : (d ws : List ℕ) (i : ℕ) → i < length ws → 8 * length ws ≤ length d
+    → overwrite (overwrite d (8 * i) (bytesOf 8 (getD ws i 0))) (8 * (i + 1)) (wordBytes (drop (i + 1) ws)) ≡ overwrite d (8 * i) (wordBytes (drop i ws))
+unfolding wordBytes
+words-turn d ws i h room =
+    let w : List ℕ = bytesOf 8 (getD ws i 0) in
+    overwrite-then d (8 * i) (8 * (i + 1)) w (wordBytes (drop (i + 1) ws)) (omega (arith, length-bytesOf 8 (getD ws i 0))) (omega (arith, length-words (drop (i + 1) ws), length-drop (i + 1) ws))
+    ∙ ap (λ k. overwrite d (8 * i) (w ++ wordBytes (drop k ws))) (add-one i)
+    ∙ ap (λ l. overwrite d (8 * i) (wordBytes l)) (sym (drop-cons ws i 0 h))
 
-pub header-lays : (d : List ℕ) (size : ℕ) → 72 ≤ length d → lays (overwrite d 0 magic) 4 (4 ∶ 1 ∷ 8 ∶ size ∷ 8 ∶ 32 ∷ 8 ∶ 40 ∷ []) ≡ overwrite d 0 (headerBytes size)
-unfolding headerBytes widths
-header-lays d size h =
-    let fs : List Field = 4 ∶ 1 ∷ 8 ∶ size ∷ 8 ∶ 32 ∷ 8 ∶ 40 ∷ [] in
-    let w : length (fieldBytes fs) ≡ 28 = length-fields fs in
-    lays-is fs (overwrite d 0 magic) 4 (omega (arith, length-overwrite d 0 magic)) ∙ overwrite-then d 0 4 magic (fieldBytes fs) refl (omega arith)
+digits : (n x y b : ℕ) → x < 256 → y < 256 → bytesOf (suc (suc n)) (x + 256 * (y + 256 * b)) ≡ x ∷ y ∷ bytesOf n b
+unfolding bytesOf
+digits n x y b hx hy =
+    let q : (x + 256 * (y + 256 * b)) / 256 ≡ y + 256 * b = omega arith in
+    let p : (x + 256 * (y + 256 * b)) % 256 ≡ x = omega arith in
+    let s : (y + 256 * b) % 256 ≡ y = omega arith in
+    let r : (y + 256 * b) / 256 ≡ b = omega arith in
+    (λ i. p i ∷ q i % 256 ∷ bytesOf n (q i / 256)) ∙ (λ i. x ∷ s i ∷ bytesOf n (r i))
 
-pub entry-lays : (d : List ℕ) (tags : Tags) (count image len : ℕ) → 72 ≤ length d → lays d 32 (entryFields tags count image len) ≡ overwrite d 32 (fieldBytes (entryFields tags count image len))
-unfolding entryFields widths
-entry-lays d tags count image len h = lays-is (entryFields tags count image len) d 32 (omega arith)
+pack : (n a b : ℕ) → bytesOf (suc (suc n)) (a % 65536 + 65536 * b) ≡ bytesOf 2 a ++ bytesOf n b
+unfolding bytesOf
+pack n a b =
+    let d : a % 65536 + 65536 * b ≡ a % 256 + 256 * (a / 256 % 256 + 256 * b) = omega arith in
+    ap (bytesOf (suc (suc n))) d ∙ digits n (a % 256) (a / 256 % 256) b (omega arith) (omega arith)
 
-pub length-header : (size : ℕ) → length (headerBytes size) ≡ 32
-unfolding headerBytes widths
-length-header size =
-    let fs : List Field = 4 ∶ 1 ∷ 8 ∶ size ∷ 8 ∶ 32 ∷ 8 ∶ 40 ∷ [] in
-    length-append magic (fieldBytes fs) ∙ ap (4 +_) (length-fields fs)
+tags-are : (tags : Tags) → bytesOf 8 (tagsWord tags) ≡ bytesOf 2 (tags .«image_kind») ++ (bytesOf 2 (tags .«offload_kind») ++ bytesOf 4 (tags .flags))
+unfolding tagsWord
+tags-are tags =
+    pack 6 (tags .«image_kind») (tags .«offload_kind» % 65536 + 65536 * tags .flags)
+    ∙ ap (λ l. bytesOf 2 (tags .«image_kind») ++ l) (pack 4 (tags .«offload_kind») (tags .flags))
 
-pub length-entry : (tags : Tags) (count image len : ℕ) → length (fieldBytes (entryFields tags count image len)) ≡ 40
-unfolding entryFields widths
-length-entry tags count image len = length-fields (entryFields tags count image len)
+-- the definition's first bytes, by words
+pub head-are : (tags : Tags) (count image len size : ℕ)
+    → magic ++ fieldBytes (4 ∶ 1 ∷ 8 ∶ size ∷ 8 ∶ 32 ∷ 8 ∶ 40 ∷ 2 ∶ tags .«image_kind» ∷ 2 ∶ tags .«offload_kind» ∷ 4 ∶ tags .flags ∷ 8 ∶ 72 ∷ 8 ∶ count ∷ 8 ∶ image ∷ 8 ∶ len ∷ []) ≡ wordBytes (headWords tags count image len size)
+unfolding headWords wordBytes fieldBytes bytesOf
+head-are tags count image len size =
+    ap (λ l. bytesOf 8 7198539536 ++ (bytesOf 8 size ++ (bytesOf 8 32 ++ (bytesOf 8 40 ++ (l ++ (bytesOf 8 72 ++ (bytesOf 8 count ++ (bytesOf 8 image ++ (bytesOf 8 len ++ []))))))))) (sym (tags-are tags))
 
 -- ---- a turn of each loop
 

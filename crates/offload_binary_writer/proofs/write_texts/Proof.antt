@@ -29,8 +29,8 @@ loop-holds c =
 text-in-requires : tie.Need-text-in-requires Inv-loop μ-loop
 text-in-requires c κs = let s = c .before .before .before .before in omega (arith, s .pre .1)
 
-put-text-requires : tie.Need-put-text-requires Inv-loop μ-loop
-put-text-requires c κs =
+put-padded-requires : tie.Need-put-padded-requires Inv-loop μ-loop
+put-padded-requires c κs =
     let s = c .before .before .before .before .before .before in
     let l = c .before .before .before .loop in
     let t = ap length (c .before .text-in .ensures) in
@@ -71,7 +71,7 @@ loop-again c =
       omega arith,
       (
         omega arith,
-        (c .before .before .put-text .ensures ∙ strings-turn (a .out .now) f (a .first) (l .out) (c .before .before .before .before .text-in .result .now) (l .j) (l .at) (strings-room (a .out .now) f (a .first) (l .j) (a .m) (omega arith) (s .pre .0)) (l .inv .1 .1 .0) (l .inv .1 .0) e, search needs),
+        (c .before .before .put-padded .ensures ∙ strings-turn (a .out .now) f (a .first) (l .out) (c .before .before .before .before .text-in .result .now) (l .j) (l .at) (strings-room (a .out .now) f (a .first) (l .j) (a .m) (omega arith) (s .pre .0)) (l .inv .1 .1 .0) (l .inv .1 .0) e, search needs),
       ),
     )
 
@@ -93,7 +93,7 @@ write-texts-spec =
     μ-loop
     loop-holds
     text-in-requires
-    put-text-requires
+    put-padded-requires
     add-at
     add-at-2
     add-j
