@@ -151,10 +151,10 @@ fn write_head(out: &mut [u8], tags: Tags, count: usize, image: usize, len: usize
     put_words(out, &words);
 }
 
-// The offsets of the first m strings, at 72: the strings start at `first`.
-fn write_offsets(out: &mut [u8], buf: &[u8], pairs: [StringPair; 32], m: usize, first: usize)
-    requires { ⌜ (72 + 8 * m ≤ length (now out)) × ((m ≤ 64) × ((first ≤ 1000) × ((j : ℕ) → j < m → length (textIn (now buf) pairs j) ≤ 256))) ⌝ }
-    ensures { λ _. ⌜ now (out .exit) ≡ overwrite (now (out .entry)) 72 (fieldBytes (offsets first (tab m (textIn (now (buf .entry)) pairs)))) ⌝ }
+// The offsets of the first m strings, at 72, and the strings with their zero bytes, from `first` on.
+fn write_strings(out: &mut [u8], buf: &[u8], pairs: [StringPair; 32], m: usize, first: usize)
+    requires { ⌜ (first + length (stringBytes (tab m (textIn (now buf) pairs))) ≤ length (now out)) × ((m ≤ 64) × (first ≡ 72 + 8 * m)) ⌝ }
+    ensures { λ _. ⌜ now (out .exit) ≡ overwrite (overwrite (now (out .entry)) 72 (fieldBytes (offsets first (tab m (textIn (now (buf .entry)) pairs))))) first (stringBytes (tab m (textIn (now (buf .entry)) pairs))) ⌝ }
 {
     let mut at = first;
     let mut j = 0;
@@ -162,20 +162,6 @@ fn write_offsets(out: &mut [u8], buf: &[u8], pairs: [StringPair; 32], m: usize, 
         let text = text_in(buf, pairs, j);
         let place = 72 + 8 * j;
         wire_write::put_word8(out, place, at as u64);
-        at = at + text.len() + 1;
-        j += 1;
-    }
-}
-
-// The first m strings with their zero bytes, at `first`.
-fn write_texts(out: &mut [u8], buf: &[u8], pairs: [StringPair; 32], m: usize, first: usize)
-    requires { ⌜ (first + length (stringBytes (tab m (textIn (now buf) pairs))) ≤ length (now out)) × (m ≤ 64) ⌝ }
-    ensures { λ _. ⌜ now (out .exit) ≡ overwrite (now (out .entry)) first (stringBytes (tab m (textIn (now (buf .entry)) pairs))) ⌝ }
-{
-    let mut at = first;
-    let mut j = 0;
-    while j < m {
-        let text = text_in(buf, pairs, j);
         put_padded(out, at, text, 1);
         at = at + text.len() + 1;
         j += 1;
@@ -222,13 +208,11 @@ fn write_parts(
     buf: &[u8],
     at: Layout,
 )
-    requires { ⌜ (n ≤ 32) × ((LayoutIs (textIn (now buf) pairs) n (length (now image)) at) × ((at .size ≤ length (now out)) × ((j : ℕ) → j < 2 * n → length (textIn (now buf) pairs j) ≤ 256))) ⌝ }
+    requires { ⌜ (n ≤ 32) × ((LayoutIs (textIn (now buf) pairs) n (length (now image)) at) × (at .size ≤ length (now out))) ⌝ }
     ensures { λ _. ⌜ now (out .exit) ≡ overwrite (now (out .entry)) 0 (written (given tags (now (image .entry)) (listed pairs n) (now (buf .entry)))) ⌝ }
 {
-    let strings = at.strings;
     write_head(out, tags, n, at.image, image.len(), at.size);
-    write_offsets(out, buf, pairs, 2 * n, strings);
-    write_texts(out, buf, pairs, 2 * n, strings);
+    write_strings(out, buf, pairs, 2 * n, at.strings);
     write_image(out, image, at);
 }
 
