@@ -102,11 +102,7 @@ fn put_zeros(out: &mut [u8], at: usize, n: usize)
     ensures { λ _. ⌜ now (out .exit) ≡ overwrite (now (out .entry)) at (replicate n 0) ⌝ }
 {
     let zeros = [0u8; 8];
-    wire_write::copy_at(
-        out,
-        at,
-        offload_binary_parts::bytes_at(&zeros, Part { start: 0, len: n }),
-    );
+    wire_write::copy_at(out, at, &zeros[..n]);
 }
 
 // Bytes at `at`, and n zero bytes behind them.
