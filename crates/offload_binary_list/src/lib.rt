@@ -17,18 +17,21 @@ fn pair_count(pairs: &[StringPair]) -> usize
     pairs.len()
 }
 
+// The pair of no bytes.
+fn no_pair() -> StringPair
+    ensures { λ r. ⌜ r ≡ noPair ⌝ }
+{
+    StringPair {
+        key: Part { start: 0, len: 0 },
+        text: Part { start: 0, len: 0 },
+    }
+}
+
 // Pair i of the list, or the pair of no bytes past its end.
 fn pair_or_none(pairs: &[StringPair], i: usize) -> StringPair
     ensures { λ r. ⌜ r ≡ getD (now (pairs .entry)) i noPair ⌝ }
 {
-    if i < pairs.len() {
-        pairs[i]
-    } else {
-        StringPair {
-            key: Part { start: 0, len: 0 },
-            text: Part { start: 0, len: 0 },
-        }
-    }
+    if i < pairs.len() { pairs[i] } else { no_pair() }
 }
 
 // The array with x at place i.

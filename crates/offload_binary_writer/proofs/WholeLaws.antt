@@ -1,10 +1,9 @@
 -- The parts of a binary, written one behind another, are the binary. Assumes nothing.
 use Prim.Native.Nat.{ℕ, _+_, _*_, _-_, _≤_}
 use native.Mathlib.Omega.{arith}
-use mathlib.Core.Path.{_≡_, refl, sym, ap, _∙_}
+use mathlib.Core.Path.{_≡_, sym, ap, _∙_}
 use mathlib.Core.List.{List, _++_, map, append-assoc}
 use lib.ListN.{length, replicate, length-append, length-replicate}
-use Rattle.wire.specs.Word.{bytesOf}
 use Rattle.wire.specs.Bytes.{overwrite}
 use Rattle.wire.proofs.OverwriteLaws.{overwrite-then}
 use Rattle.wire.specs.Lists.{tab}
@@ -15,18 +14,18 @@ use Rattle.wire.proofs.TabLaws.{length-tab}
 use Rattle.offload_binary.proofs.WrittenLaws.{up8-le, length-offsets}
 use Rattle.offload_binary.specs.Writer.{given, listed}
 use Rattle.offload_binary.specs.Arrays.{textIn}
-use Rattle.offload_binary_writer.specs.Code.{LayoutIs, headerBytes, entryFields}
+use Rattle.offload_binary_writer.specs.Code.{LayoutIs, wordBytes, headWords, imageBytes}
 use Rattle.offload_binary.specs.declared.Tags.{Tags}
 use Rattle.offload_binary_writer.specs.declared.Layout.{Layout}
 use Rattle.offload_binary.proofs.TextLaws.{length-given, texts-are}
-use Rattle.offload_binary_writer.proofs.WriteLaws.{length-header, length-entry}
+use Rattle.offload_binary_writer.proofs.WriteLaws.{length-words, head-are}
 
 pub up8-top : (n : ℕ) → up8 n ≤ n + 7
 unfolding up8
 up8-top n = omega arith
 
-regroup : (a b c d e f : List ℕ) → a ++ (b ++ (c ++ (d ++ (e ++ f)))) ≡ ((((a ++ b) ++ c) ++ d) ++ e) ++ f
-regroup a b c d e f = simp append-assoc
+regroup : (a b c d : List ℕ) → a ++ (b ++ (c ++ d)) ≡ ((a ++ b) ++ c) ++ d
+regroup a b c d = simp append-assoc
 
 module _ (tags : Tags) (image : List ℕ) (pairs : List StringPair) (n : ℕ) (buf : List ℕ) where
   abbrev g : Contents
@@ -38,17 +37,12 @@ module _ (tags : Tags) (image : List ℕ) (pairs : List StringPair) (n : ℕ) (b
   abbrev xs : List (List ℕ)
   xs = tab (2 * n) (textIn buf pairs)
 
-  -- header and entry are the definition's first bytes
-  head-is : magic ++ fieldBytes (headFields g) ≡ headerBytes (binarySize g) ++ fieldBytes (entryFields tags (length ts) (imageStart g) (length image))
-  unfolding headerBytes entryFields headFields fieldBytes bytesOf given
-  head-is = refl
-
   abbrev afterHead : List ℕ
   afterHead = fieldBytes (offsets (stringsStart ts) (texts ts)) ++ (stringBytes (texts ts) ++ (zeros (stringsEnd ts) (imageStart g) ++ (image ++ zeros (imageEnd g) (binarySize g))))
 
-  written-is : written g ≡ (headerBytes (binarySize g) ++ fieldBytes (entryFields tags (length ts) (imageStart g) (length image))) ++ afterHead
-  unfolding written given
-  written-is = sym (append-assoc magic (fieldBytes (headFields g)) afterHead) ∙ ap (λ h. h ++ afterHead) head-is
+  written-is : written g ≡ wordBytes (headWords tags (length ts) (imageStart g) (length image) (binarySize g)) ++ afterHead
+  unfolding written given headFields
+  written-is = sym (append-assoc magic (fieldBytes (headFields g)) afterHead) ∙ ap (λ h. h ++ afterHead) (head-are tags (length ts) (imageStart g) (length image) (binarySize g))
 
   module _ (at : Layout) (is : LayoutIs (textIn buf pairs) n (length image) at) where
     strings-start : stringsStart ts ≡ at .strings
@@ -92,11 +86,8 @@ module _ (tags : Tags) (image : List ℕ) (pairs : List StringPair) (n : ℕ) (b
       size-near = omega (arith, is .size-is, up8-top (at .stop));
     }
 
-    abbrev H : List ℕ
-    H = headerBytes (at .size)
-
-    abbrev E : List ℕ
-    E = fieldBytes (entryFields tags n (at .image) (length image))
+    abbrev W : List ℕ
+    W = wordBytes (headWords tags n (at .image) (length image) (at .size))
 
     abbrev P : List ℕ
     P = fieldBytes (offsets (at .strings) xs)
@@ -104,14 +95,19 @@ module _ (tags : Tags) (image : List ℕ) (pairs : List StringPair) (n : ℕ) (b
     abbrev S : List ℕ
     S = stringBytes xs
 
-    abbrev Z : List ℕ
-    Z = replicate (at .image - at .end) 0
+    abbrev I : List ℕ
+    I = imageBytes at image
 
-    abbrev Z′ : List ℕ
-    Z′ = replicate (at .size - at .stop) 0
+    length-head : length W ≡ 72
+    unfolding headWords
+    length-head = length-words (headWords tags n (at .image) (length image) (at .size))
 
-    parts-are : written g ≡ (((((H ++ E) ++ P) ++ S) ++ Z) ++ image) ++ Z′
-    unfolding zeros
+    length-image : length I ≡ at .size - at .end
+    unfolding imageBytes
+    length-image = let o = ordered in simp (length-append, length-replicate) (omega arith)
+
+    parts-are : written g ≡ ((W ++ P) ++ S) ++ I
+    unfolding zeros imageBytes
     parts-are =
         let c = length-given buf pairs n in
         let x = texts-are buf pairs n in
@@ -121,35 +117,22 @@ module _ (tags : Tags) (image : List ℕ) (pairs : List StringPair) (n : ℕ) (b
         let z = image-end in
         let t = size-is in
         written-is
-        ∙ (λ i. (headerBytes (t i) ++ fieldBytes (entryFields tags (c i) (a i) (length image))) ++ (fieldBytes (offsets (s i) (x i)) ++ (stringBytes (x i) ++ (replicate (a i - e i) 0 ++ (image ++ replicate (t i - z i) 0)))))
-        ∙ regroup (H ++ E) P S Z image Z′
+        ∙ (λ i. wordBytes (headWords tags (c i) (a i) (length image) (t i)) ++ (fieldBytes (offsets (s i) (x i)) ++ (stringBytes (x i) ++ (replicate (a i - e i) 0 ++ (image ++ replicate (t i - z i) 0)))))
+        ∙ regroup W P S I
 
-    -- the seven writes
-    abbrev pub sevenfold : List ℕ → List ℕ
-    sevenfold d = overwrite (overwrite (overwrite (overwrite (overwrite (overwrite (overwrite d 0 H) 32 E) 72 P) (at .strings) S) (at .end) Z) (at .image) image) (at .stop) Z′
+    -- the four writes
+    abbrev pub fourfold : List ℕ → List ℕ
+    fourfold d = overwrite (overwrite (overwrite (overwrite d 0 W) 72 P) (at .strings) S) (at .end) I
 
-    pub whole : (d : List ℕ) → at .size ≤ length d → sevenfold d ≡ overwrite d 0 (written g)
+    pub whole : (d : List ℕ) → at .size ≤ length d → fourfold d ≡ overwrite d 0 (written g)
     whole d room =
         let o = ordered in
-        let a₀ = length-header (at .size) in
-        let a₁ = length-entry tags n (at .image) (length image) in
-        let a₂ : length P ≡ 16 * n = length-offsets (at .strings) xs ∙ omega (arith, length-tab (2 * n) (textIn buf pairs)) in
-        let a₃ : length Z ≡ at .image - at .end = length-replicate (at .image - at .end) 0 in
-        let a₄ : length Z′ ≡ at .size - at .stop = length-replicate (at .size - at .stop) 0 in
-        let x₁ : List ℕ = H ++ E in
-        let x₂ : List ℕ = x₁ ++ P in
-        let x₃ : List ℕ = x₂ ++ S in
-        let x₄ : List ℕ = x₃ ++ Z in
-        let x₅ : List ℕ = x₄ ++ image in
-        let n₁ : length x₁ ≡ 72 = length-append H E ∙ omega arith in
-        let n₂ : length x₂ ≡ at .strings = length-append x₁ P ∙ omega arith in
-        let n₃ : length x₃ ≡ at .end = length-append x₂ S ∙ omega arith in
-        let n₄ : length x₄ ≡ at .image = length-append x₃ Z ∙ omega arith in
-        let n₅ : length x₅ ≡ at .stop = length-append x₄ image ∙ omega arith in
-        ap (λ y. overwrite (overwrite (overwrite (overwrite (overwrite y 72 P) (at .strings) S) (at .end) Z) (at .image) image) (at .stop) Z′) (overwrite-then d 0 32 H E (omega arith) (omega arith))
-        ∙ ap (λ y. overwrite (overwrite (overwrite (overwrite y (at .strings) S) (at .end) Z) (at .image) image) (at .stop) Z′) (overwrite-then d 0 72 x₁ P (omega arith) (omega arith))
-        ∙ ap (λ y. overwrite (overwrite (overwrite y (at .end) Z) (at .image) image) (at .stop) Z′) (overwrite-then d 0 (at .strings) x₂ S (omega arith) (omega arith))
-        ∙ ap (λ y. overwrite (overwrite y (at .image) image) (at .stop) Z′) (overwrite-then d 0 (at .end) x₃ Z (omega arith) (omega arith))
-        ∙ ap (λ y. overwrite y (at .stop) Z′) (overwrite-then d 0 (at .image) x₄ image (omega arith) (omega arith))
-        ∙ overwrite-then d 0 (at .stop) x₅ Z′ (omega arith) (omega arith)
+        let a₀ = length-head in
+        let a₁ : length P ≡ 16 * n = length-offsets (at .strings) xs ∙ omega (arith, length-tab (2 * n) (textIn buf pairs)) in
+        let a₂ = length-image in
+        let n₁ : length (W ++ P) ≡ at .strings = length-append W P ∙ omega arith in
+        let n₂ : length ((W ++ P) ++ S) ≡ at .end = length-append (W ++ P) S ∙ omega arith in
+        ap (λ y. overwrite (overwrite y (at .strings) S) (at .end) I) (overwrite-then d 0 72 W P (omega arith) (omega arith))
+        ∙ ap (λ y. overwrite y (at .end) I) (overwrite-then d 0 (at .strings) (W ++ P) S (omega arith) (omega arith))
+        ∙ overwrite-then d 0 (at .end) ((W ++ P) ++ S) I (omega arith) (omega arith)
         ∙ ap (overwrite d 0) (sym parts-are)

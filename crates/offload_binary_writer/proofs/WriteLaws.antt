@@ -1,59 +1,111 @@
 -- What the writer's parts leave, one behind another. Assumes nothing.
-use Prim.Native.Nat.{ℕ, zero, suc, _+_, _*_, _-_, _<_, _≤_}
+use Prim.Native.Nat.{ℕ, zero, suc, _+_, _*_, _-_, _/_, _%_, _<_, _≤_}
+use native.Mathlib.Numerals.{add-one}
 use native.Mathlib.Omega.{arith}
-use mathlib.Core.Path.{_≡_, refl, sym, ap, ap₂, _∙_}
-use mathlib.Core.List.{List, [], _∷_, _++_}
-use lib.ListN.{length, length-append}
+use mathlib.Core.Path.{_≡_, refl, sym, ap, ap₂, _∙_, subst}
+use mathlib.Core.List.{List, [], _∷_, _++_, append-assoc}
+use lib.ListN.{length, getD, take, drop, length-append, length-drop, take-append-drop}
+use lib.Seq.{drop-cons, take-at, drop-at, length-take-le}
 use Rattle.wire.specs.Word.{bytesOf}
 use Rattle.wire.specs.Bytes.{overwrite}
 use Rattle.wire.proofs.WordLaws.{length-bytesOf}
-use Rattle.wire.proofs.OverwriteLaws.{overwrite-nil, overwrite-then, length-overwrite}
+use Rattle.wire.proofs.OverwriteLaws.{overwrite-in, overwrite-then, length-overwrite}
 use Rattle.wire.specs.Lists.{tab}
 use Rattle.offload_binary.specs.Binary.{magic}
-use Rattle.offload_binary.specs.Contents.{Field, _∶_, fieldBytes, stringBytes, offsets}
+use Rattle.offload_binary.specs.Contents.{_∶_, fieldBytes, stringBytes, offsets}
 use Rattle.wire.proofs.TabLaws.{length-tab}
-use Rattle.offload_binary.proofs.WrittenLaws.{widths, length-fields, length-offsets}
-use Rattle.offload_binary_writer.specs.Code.{headerBytes, entryFields}
+use Rattle.offload_binary.proofs.WrittenLaws.{length-offsets}
+use Rattle.offload_binary_writer.specs.Code.{wordBytes, tagsWord, headWords}
 use Rattle.offload_binary.specs.declared.Tags.{Tags}
 use Rattle.offload_binary.proofs.TextLaws.{strings-more, length-more, offsets-more}
 
--- ---- numbers put one after another
+-- ---- header and entry
 
-unfoldable pub lays : List ℕ → ℕ → List Field → List ℕ
-lays d at [] = d
-lays d at (f ∷ fs) = lays (overwrite d at (bytesOf (f .width) (f .value))) (at + f .width) fs
+pub length-words : (ws : List ℕ) → length (wordBytes ws) ≡ 8 * length ws
+unfolding wordBytes
+length-words [] = refl
+length-words (w ∷ ws) = length-append (bytesOf 8 w) (wordBytes ws) ∙ omega (arith, length-bytesOf 8 w, length-words ws)
 
-lays-is : (fs : List Field) (d : List ℕ) (at : ℕ) → at + widths fs ≤ length d → lays d at fs ≡ overwrite d at (fieldBytes fs)
-unfolding lays fieldBytes widths
-lays-is [] d at h = sym (overwrite-nil d at)
-lays-is (f ∷ fs) d at h =
-    let b : List ℕ = bytesOf (f .width) (f .value) in
-    let l : length b ≡ f .width = length-bytesOf (f .width) (f .value) in
-    lays-is fs (overwrite d at b) (at + f .width) (omega (arith, length-overwrite d at b))
-    ∙ overwrite-then d at (at + f .width) b (fieldBytes fs) (omega arith) (omega (arith, length-fields fs))
+-- a turn: the word at i, and those behind it, are the words from i on
+pub words-turn : (d ws : List ℕ) (i : ℕ) → i < length ws → 8 * length ws ≤ length d
+    → overwrite (overwrite d (8 * i) (bytesOf 8 (getD ws i 0))) (8 * (i + 1)) (wordBytes (drop (i + 1) ws)) ≡ overwrite d (8 * i) (wordBytes (drop i ws))
+unfolding wordBytes
+words-turn d ws i h room =
+    let w : List ℕ = bytesOf 8 (getD ws i 0) in
+    overwrite-then d (8 * i) (8 * (i + 1)) w (wordBytes (drop (i + 1) ws)) (omega (arith, length-bytesOf 8 (getD ws i 0))) (omega (arith, length-words (drop (i + 1) ws), length-drop (i + 1) ws))
+    ∙ ap (λ k. overwrite d (8 * i) (w ++ wordBytes (drop k ws))) (add-one i)
+    ∙ ap (λ l. overwrite d (8 * i) (wordBytes l)) (sym (drop-cons ws i 0 h))
 
-pub header-lays : (d : List ℕ) (size : ℕ) → 72 ≤ length d → lays (overwrite d 0 magic) 4 (4 ∶ 1 ∷ 8 ∶ size ∷ 8 ∶ 32 ∷ 8 ∶ 40 ∷ []) ≡ overwrite d 0 (headerBytes size)
-unfolding headerBytes widths
-header-lays d size h =
-    let fs : List Field = 4 ∶ 1 ∷ 8 ∶ size ∷ 8 ∶ 32 ∷ 8 ∶ 40 ∷ [] in
-    let w : length (fieldBytes fs) ≡ 28 = length-fields fs in
-    lays-is fs (overwrite d 0 magic) 4 (omega (arith, length-overwrite d 0 magic)) ∙ overwrite-then d 0 4 magic (fieldBytes fs) refl (omega arith)
+digits : (n x y b : ℕ) → x < 256 → y < 256 → bytesOf (suc (suc n)) (x + 256 * (y + 256 * b)) ≡ x ∷ y ∷ bytesOf n b
+unfolding bytesOf
+digits n x y b hx hy =
+    let q : (x + 256 * (y + 256 * b)) / 256 ≡ y + 256 * b = omega arith in
+    let p : (x + 256 * (y + 256 * b)) % 256 ≡ x = omega arith in
+    let s : (y + 256 * b) % 256 ≡ y = omega arith in
+    let r : (y + 256 * b) / 256 ≡ b = omega arith in
+    (λ i. p i ∷ q i % 256 ∷ bytesOf n (q i / 256)) ∙ (λ i. x ∷ s i ∷ bytesOf n (r i))
 
-pub entry-lays : (d : List ℕ) (tags : Tags) (count image len : ℕ) → 72 ≤ length d → lays d 32 (entryFields tags count image len) ≡ overwrite d 32 (fieldBytes (entryFields tags count image len))
-unfolding entryFields widths
-entry-lays d tags count image len h = lays-is (entryFields tags count image len) d 32 (omega arith)
+pack : (n a b : ℕ) → bytesOf (suc (suc n)) (a % 65536 + 65536 * b) ≡ bytesOf 2 a ++ bytesOf n b
+unfolding bytesOf
+pack n a b =
+    let d : a % 65536 + 65536 * b ≡ a % 256 + 256 * (a / 256 % 256 + 256 * b) = omega arith in
+    ap (bytesOf (suc (suc n))) d ∙ digits n (a % 256) (a / 256 % 256) b (omega arith) (omega arith)
 
-pub length-header : (size : ℕ) → length (headerBytes size) ≡ 32
-unfolding headerBytes widths
-length-header size =
-    let fs : List Field = 4 ∶ 1 ∷ 8 ∶ size ∷ 8 ∶ 32 ∷ 8 ∶ 40 ∷ [] in
-    length-append magic (fieldBytes fs) ∙ ap (4 +_) (length-fields fs)
+tags-are : (tags : Tags) → bytesOf 8 (tagsWord tags) ≡ bytesOf 2 (tags .«image_kind») ++ (bytesOf 2 (tags .«offload_kind») ++ bytesOf 4 (tags .flags))
+unfolding tagsWord
+tags-are tags =
+    pack 6 (tags .«image_kind») (tags .«offload_kind» % 65536 + 65536 * tags .flags)
+    ∙ ap (λ l. bytesOf 2 (tags .«image_kind») ++ l) (pack 4 (tags .«offload_kind») (tags .flags))
 
-pub length-entry : (tags : Tags) (count image len : ℕ) → length (fieldBytes (entryFields tags count image len)) ≡ 40
-unfolding entryFields widths
-length-entry tags count image len = length-fields (entryFields tags count image len)
+-- the definition's first bytes, by words
+pub head-are : (tags : Tags) (count image len size : ℕ)
+    → magic ++ fieldBytes (4 ∶ 1 ∷ 8 ∶ size ∷ 8 ∶ 32 ∷ 8 ∶ 40 ∷ 2 ∶ tags .«image_kind» ∷ 2 ∶ tags .«offload_kind» ∷ 4 ∶ tags .flags ∷ 8 ∶ 72 ∷ 8 ∶ count ∷ 8 ∶ image ∷ 8 ∶ len ∷ []) ≡ wordBytes (headWords tags count image len size)
+unfolding headWords wordBytes fieldBytes bytesOf
+head-are tags count image len size =
+    ap (λ l. bytesOf 8 7198539536 ++ (bytesOf 8 size ++ (bytesOf 8 32 ++ (bytesOf 8 40 ++ (l ++ (bytesOf 8 72 ++ (bytesOf 8 count ++ (bytesOf 8 image ++ (bytesOf 8 len ++ []))))))))) (sym (tags-are tags))
 
--- ---- a turn of each loop
+-- ---- two parts that lie apart can be written in either order
+
+over-at : (p v r y : List ℕ) (at : ℕ) → length p ≡ at → length y ≡ length v → overwrite (p ++ (v ++ r)) at y ≡ p ++ (y ++ r)
+over-at p v r y at e f =
+    let t : take at (p ++ (v ++ r)) ≡ p = take-at p (v ++ r) at e in
+    let g : drop (at + length y) (p ++ (v ++ r)) ≡ r = ap (drop (at + length y)) (sym (append-assoc p v r)) ∙ drop-at (p ++ v) r (at + length y) (length-append p v ∙ omega arith) in
+    overwrite-in (p ++ (v ++ r)) at y (omega (arith, length-append p (v ++ r), length-append v r))
+    ∙ ap₂ (λ a b. a ++ y ++ b) t g ∙ append-assoc p y r
+
+apart-in : (p u q v r x y : List ℕ) (a b : ℕ) → length p ≡ a → length x ≡ length u → length p + length u + length q ≡ b → length y ≡ length v
+    → overwrite (overwrite (p ++ (u ++ (q ++ (v ++ r)))) b y) a x ≡ overwrite (overwrite (p ++ (u ++ (q ++ (v ++ r)))) a x) b y
+apart-in p u q v r x y a b ea eu eb ev =
+    let far : (z : List ℕ) → length z ≡ length u → overwrite (p ++ (z ++ (q ++ (v ++ r)))) b y ≡ p ++ (z ++ (q ++ (y ++ r))) =
+    λ z e. ap (λ l. overwrite l b y) (sym (deep p z q (v ++ r))) ∙ over-at ((p ++ z) ++ q) v r y b (length-append (p ++ z) q ∙ omega (arith, length-append p z)) ev ∙ deep p z q (y ++ r) in
+    ap (λ l. overwrite l a x) (far u refl) ∙ over-at p u (q ++ (y ++ r)) x a ea eu
+    ∙ sym (ap (λ l. overwrite l b y) (over-at p u (q ++ (v ++ r)) x a ea eu) ∙ far x eu)
+  where
+    deep : (p z q t : List ℕ) → ((p ++ z) ++ q) ++ t ≡ p ++ (z ++ (q ++ t))
+    deep p z q t = simp append-assoc
+
+apart : (d x y : List ℕ) (a b : ℕ) → a + length x ≤ b → b + length y ≤ length d → overwrite (overwrite d b y) a x ≡ overwrite (overwrite d a x) b y
+apart d x y a b h k =
+    let n : ℕ = length x in
+    let m : ℕ = b - (a + n) in
+    let d₁ : List ℕ = drop a d in
+    let d₂ : List ℕ = drop n d₁ in
+    let d₃ : List ℕ = drop m d₂ in
+    let u : List ℕ = take n d₁ in
+    let q : List ℕ = take m d₂ in
+    let v : List ℕ = take (length y) d₃ in
+    let l₁ = length-drop a d in
+    let l₂ = length-drop n d₁ in
+    let l₃ = length-drop m d₂ in
+    let e : take a d ++ (u ++ (q ++ (v ++ drop (length y) d₃))) ≡ d =
+    ap (λ l. take a d ++ (u ++ (q ++ l))) (take-append-drop (length y) d₃) ∙ ap (λ l. take a d ++ (u ++ l)) (take-append-drop m d₂) ∙ ap (λ l. take a d ++ l) (take-append-drop n d₁) ∙ take-append-drop a d in
+    let c₀ : length (take a d) ≡ a = length-take-le a d (omega arith) in
+    let c₁ : length u ≡ n = length-take-le n d₁ (omega arith) in
+    let c₂ : length q ≡ m = length-take-le m d₂ (omega arith) in
+    let c₃ : length v ≡ length y = length-take-le (length y) d₃ (omega arith) in
+    subst (λ l. overwrite (overwrite l b y) a x ≡ overwrite (overwrite l a x) b y) e (apart-in (take a d) u q v (drop (length y) d₃) x y a b c₀ (sym c₁) (omega arith) (sym c₃))
+
+-- ---- a turn of the loop over the strings
 
 module _ (d : List ℕ) (f : ℕ → List ℕ) (first : ℕ) where
   abbrev pub offs : ℕ → List ℕ
@@ -65,12 +117,17 @@ module _ (d : List ℕ) (f : ℕ → List ℕ) (first : ℕ) where
   length-offs : (j : ℕ) → length (offs j) ≡ 8 * j
   length-offs j = length-offsets first (tab j f) ∙ ap (8 *_) (length-tab j f)
 
-  pub offsets-turn : (out : List ℕ) (j at : ℕ) → 72 + 8 * j + 8 ≤ length d → out ≡ overwrite d 72 (offs j) → at ≡ first + length (strs j)
-      → overwrite out (72 + 8 * j) (bytesOf 8 at) ≡ overwrite d 72 (offs (j + 1))
-  offsets-turn out j at room e a =
-      ap₂ (λ o k. overwrite o (72 + 8 * j) (bytesOf 8 k)) e a
-      ∙ overwrite-then d 72 (72 + 8 * j) (offs j) (bytesOf 8 (first + length (strs j))) (omega (arith, length-offs j)) (omega (arith, length-bytesOf 8 (first + length (strs j))))
-      ∙ ap (overwrite d 72) (sym (offsets-more f first j))
+  -- what is written after j turns: the offsets, and the strings from `first` on
+  abbrev pub laid : ℕ → List ℕ
+  laid j = overwrite (overwrite d 72 (offs j)) first (strs j)
+
+  offsets-turn : (j : ℕ) → 72 + 8 * j + 8 ≤ first → first + length (strs j) ≤ length d
+      → overwrite (laid j) (72 + 8 * j) (bytesOf 8 (first + length (strs j))) ≡ overwrite (overwrite d 72 (offs (j + 1))) first (strs j)
+  offsets-turn j below room =
+      let w : List ℕ = bytesOf 8 (first + length (strs j)) in
+      let l : length w ≡ 8 = length-bytesOf 8 (first + length (strs j)) in
+      apart (overwrite d 72 (offs j)) w (strs j) (72 + 8 * j) first (omega arith) (omega (arith, length-overwrite d 72 (offs j)))
+      ∙ ap (λ o. overwrite o first (strs j)) (overwrite-then d 72 (72 + 8 * j) (offs j) w (omega (arith, length-offs j)) (omega arith) ∙ ap (overwrite d 72) (sym (offsets-more f first j)))
 
   pub strings-grow : (k j : ℕ) → length (strs j) ≤ length (strs (j + k))
   strings-grow zero j = let z : j ≡ j + 0 = omega arith in omega (arith, ap (λ i. length (strs i)) z)
@@ -79,9 +136,11 @@ module _ (d : List ℕ) (f : ℕ → List ℕ) (first : ℕ) where
   pub strings-room : (j m : ℕ) → j < m → first + length (strs m) ≤ length d → first + length (strs j) + length (f j) + 1 ≤ length d
   strings-room j m h room = let z : j + 1 + (m - (j + 1)) ≡ m = omega arith in omega (arith, strings-grow (m - (j + 1)) (j + 1), ap (λ i. length (strs i)) z, length-more f j)
 
-  pub strings-turn : (out x : List ℕ) (j at : ℕ) → first + length (strs j) + length (f j) + 1 ≤ length d → out ≡ overwrite d first (strs j) → at ≡ first + length (strs j) → x ≡ f j
-      → overwrite out at (x ++ (0 ∷ [])) ≡ overwrite d first (strs (j + 1))
-  strings-turn out x j at room e a q =
-      ap₂ (λ o y. overwrite o at (y ++ (0 ∷ []))) e q
-      ∙ overwrite-then d first at (strs j) (f j ++ (0 ∷ [])) (sym a) (omega (arith, length-append (f j) (0 ∷ [])))
-      ∙ ap (overwrite d first) (sym (strings-more f j))
+  pub strings-turn : (out o x : List ℕ) (j at : ℕ) → 72 + 8 * j + 8 ≤ first → first + length (strs j) + length (f j) + 1 ≤ length d
+      → o ≡ laid j → at ≡ first + length (strs j) → x ≡ f j → out ≡ overwrite o (72 + 8 * j) (bytesOf 8 at)
+      → overwrite out at (x ++ (0 ∷ [])) ≡ laid (j + 1)
+  strings-turn out o x j at below room e a q w =
+      let d′ : List ℕ = overwrite d 72 (offs (j + 1)) in
+      ap₂ (λ p y. overwrite p at (y ++ (0 ∷ []))) (w ∙ ap₂ (λ p k. overwrite p (72 + 8 * j) (bytesOf 8 k)) e a ∙ offsets-turn j below (omega arith)) q
+      ∙ overwrite-then d′ first at (strs j) (f j ++ (0 ∷ [])) (sym a) (omega (arith, length-append (f j) (0 ∷ []), length-overwrite d 72 (offs (j + 1))))
+      ∙ ap (overwrite d′ first) (sym (strings-more f j))

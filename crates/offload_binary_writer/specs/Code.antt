@@ -1,11 +1,11 @@
 -- What the private functions of the writer ensure. No public promise rests on these. Definitions only.
-use Prim.Native.Nat.{ℕ, _+_, _*_}
+use Prim.Native.Nat.{ℕ, _+_, _*_, _-_, _%_}
 use mathlib.Core.Path.{_≡_}
 use mathlib.Core.List.{List, [], _∷_, _++_}
-use lib.ListN.{length}
+use lib.ListN.{length, replicate}
 use Rattle.wire.specs.Lists.{tab}
-use Rattle.offload_binary.specs.Binary.{magic}
-use Rattle.offload_binary.specs.Contents.{Field, _∶_, fieldBytes, stringBytes, up8}
+use Rattle.wire.specs.Word.{bytesOf}
+use Rattle.offload_binary.specs.Contents.{stringBytes, up8}
 use Rattle.offload_binary.specs.declared.Tags.{Tags}
 use Rattle.offload_binary_writer.specs.declared.Layout.{Layout}
 
@@ -17,10 +17,19 @@ pub record LayoutIs (f : ℕ → List ℕ) (n len : ℕ) (at : Layout) : Type 0 
   pub stop-is : at .stop ≡ at .image + len
   pub size-is : at .size ≡ up8 (at .stop)
 
--- header and entry, number by number
-unfoldable pub headerBytes : ℕ → List ℕ
-headerBytes size = magic ++ fieldBytes (4 ∶ 1 ∷ 8 ∶ size ∷ 8 ∶ 32 ∷ 8 ∶ 40 ∷ [])
+-- words of 8 bytes, one after another
+unfoldable pub wordBytes : List ℕ → List ℕ
+wordBytes [] = []
+wordBytes (w ∷ ws) = bytesOf 8 w ++ wordBytes ws
 
-unfoldable pub entryFields : Tags → ℕ → ℕ → ℕ → List Field
-entryFields tags count image len =
-    2 ∶ tags .«image_kind» ∷ 2 ∶ tags .«offload_kind» ∷ 4 ∶ tags .flags ∷ 8 ∶ 72 ∷ 8 ∶ count ∷ 8 ∶ image ∷ 8 ∶ len ∷ []
+-- the kinds and the flags as one word
+unfoldable pub tagsWord : Tags → ℕ
+tagsWord tags = tags .«image_kind» % 65536 + 65536 * (tags .«offload_kind» % 65536 + 65536 * tags .flags)
+
+-- header and entry; the first word is the magic number and the version
+unfoldable pub headWords : Tags → ℕ → ℕ → ℕ → ℕ → List ℕ
+headWords tags count image len size = 7198539536 ∷ size ∷ 32 ∷ 40 ∷ tagsWord tags ∷ 72 ∷ count ∷ image ∷ len ∷ []
+
+-- the image and the zero bytes around it
+unfoldable pub imageBytes : Layout → List ℕ → List ℕ
+imageBytes at image = replicate (at .image - at .end) 0 ++ (image ++ replicate (at .size - at .stop) 0)

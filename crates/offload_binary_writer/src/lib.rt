@@ -4,7 +4,7 @@ use offload_binary::StringPair;
 use offload_binary::Tags;
 use offload_binary::Written;
 ghost use mathlib.Core.Path.{_≡_};
-ghost use mathlib.Core.List.{[], _∷_, _++_};
+ghost use mathlib.Core.List.{_++_};
 ghost use Prim.Native.Nat.{ℕ, _+_, _*_, _<_, _≤_};
 ghost use lib.ListN.{length, replicate};
 ghost use Rattle.wire.specs.Bytes.{overwrite};
@@ -12,7 +12,7 @@ ghost use Rattle.wire.specs.Lists.{tab};
 ghost use Rattle.offload_binary.specs.Contents.{fieldBytes, offsets, stringBytes, up8, written};
 ghost use Rattle.offload_binary.specs.Writer.{listed, badPart, badPair, badPairs, given, write};
 ghost use Rattle.offload_binary.specs.Arrays.{partIn, textIn};
-ghost use Rattle.offload_binary_writer.specs.Code.{LayoutIs, headerBytes, entryFields};
+ghost use Rattle.offload_binary_writer.specs.Code.{LayoutIs, wordBytes, headWords, imageBytes};
 
 // Where the parts of a binary stand: its strings from `strings` to `end`, its image from `image` to `stop`.
 struct Layout {
@@ -102,54 +102,55 @@ fn put_zeros(out: &mut [u8], at: usize, n: usize)
     ensures { λ _. ⌜ now (out .exit) ≡ overwrite (now (out .entry)) at (replicate n 0) ⌝ }
 {
     let zeros = [0u8; 8];
-    wire_write::copy_at(
-        out,
-        at,
-        offload_binary_parts::bytes_at(&zeros, Part { start: 0, len: n }),
-    );
+    wire_write::copy_at(out, at, &zeros[..n]);
 }
 
-// A string and its zero byte at `at`.
-fn put_text(out: &mut [u8], at: usize, text: &[u8])
-    requires { ⌜ at + length (now text) + 1 ≤ length (now out) ⌝ }
-    ensures { λ _. ⌜ now (out .exit) ≡ overwrite (now (out .entry)) at (now (text .entry) ++ (0 ∷ [])) ⌝ }
+// Bytes at `at`, and n zero bytes behind them.
+fn put_padded(out: &mut [u8], at: usize, bytes: &[u8], n: usize)
+    requires { ⌜ (at + length (now bytes) + n ≤ length (now out)) × (n ≤ 8) ⌝ }
+    ensures { λ _. ⌜ now (out .exit) ≡ overwrite (now (out .entry)) at (now (bytes .entry) ++ replicate n 0) ⌝ }
 {
-    wire_write::copy_at(out, at, text);
-    put_zeros(out, at + text.len(), 1);
+    wire_write::copy_at(out, at, bytes);
+    put_zeros(out, at + bytes.len(), n);
 }
 
-// The header, at 0.
-fn write_header(out: &mut [u8], size: usize)
-    requires { ⌜ 72 ≤ length (now out) ⌝ }
-    ensures { λ _. ⌜ now (out .exit) ≡ overwrite (now (out .entry)) 0 (headerBytes size) ⌝ }
+// The words, 8 bytes each, from the start of the output on.
+fn put_words(out: &mut [u8], words: &[u64])
+    requires { ⌜ 8 * length (now words) ≤ length (now out) ⌝ }
+    ensures { λ _. ⌜ now (out .exit) ≡ overwrite (now (out .entry)) 0 (wordBytes (now (words .entry))) ⌝ }
 {
-    let magic = offload_binary_parts::MAGIC;
-    wire_write::copy_at(out, 0, &magic);
-    wire_write::put_word4(out, 4, 1);
-    wire_write::put_word8(out, 8, size as u64);
-    wire_write::put_word8(out, 16, 32);
-    wire_write::put_word8(out, 24, 40);
+    let mut i = 0;
+    while i < words.len() {
+        wire_write::put_word8(out, 8 * i, words[i]);
+        i += 1;
+    }
 }
 
-// The entry, at 32.
-fn write_entry(out: &mut [u8], tags: Tags, count: usize, image: usize, len: usize)
+// The header and the entry: the first word is the magic number and the version, the fifth the kinds and the flags.
+fn write_head(out: &mut [u8], tags: Tags, count: usize, image: usize, len: usize, size: usize)
     requires { ⌜ 72 ≤ length (now out) ⌝ }
-    ensures { λ _. ⌜ now (out .exit) ≡ overwrite (now (out .entry)) 32 (fieldBytes (entryFields tags count image len)) ⌝ }
+    ensures { λ _. ⌜ now (out .exit) ≡ overwrite (now (out .entry)) 0 (wordBytes (headWords tags count image len size)) ⌝ }
 {
     let flags = tags.flags as u64;
-    wire_write::put_word2(out, 32, tags.image_kind);
-    wire_write::put_word2(out, 34, tags.offload_kind);
-    wire_write::put_word4(out, 36, flags);
-    wire_write::put_word8(out, 40, 72);
-    wire_write::put_word8(out, 48, count as u64);
-    wire_write::put_word8(out, 56, image as u64);
-    wire_write::put_word8(out, 64, len as u64);
+    let kinds = tags.image_kind % 65536 + 65536 * (tags.offload_kind % 65536 + 65536 * flags);
+    let words = [
+        0x1AD10FF10,
+        size as u64,
+        32,
+        40,
+        kinds,
+        72,
+        count as u64,
+        image as u64,
+        len as u64,
+    ];
+    put_words(out, &words);
 }
 
-// The offsets of the first m strings, at 72: the strings start at `first`.
-fn write_offsets(out: &mut [u8], buf: &[u8], pairs: [StringPair; 32], m: usize, first: usize)
-    requires { ⌜ (72 + 8 * m ≤ length (now out)) × ((m ≤ 64) × ((first ≤ 1000) × ((j : ℕ) → j < m → length (textIn (now buf) pairs j) ≤ 256))) ⌝ }
-    ensures { λ _. ⌜ now (out .exit) ≡ overwrite (now (out .entry)) 72 (fieldBytes (offsets first (tab m (textIn (now (buf .entry)) pairs)))) ⌝ }
+// The offsets of the first m strings, at 72, and the strings with their zero bytes, from `first` on.
+fn write_strings(out: &mut [u8], buf: &[u8], pairs: [StringPair; 32], m: usize, first: usize)
+    requires { ⌜ (first + length (stringBytes (tab m (textIn (now buf) pairs))) ≤ length (now out)) × ((m ≤ 64) × (first ≡ 72 + 8 * m)) ⌝ }
+    ensures { λ _. ⌜ now (out .exit) ≡ overwrite (overwrite (now (out .entry)) 72 (fieldBytes (offsets first (tab m (textIn (now (buf .entry)) pairs))))) first (stringBytes (tab m (textIn (now (buf .entry)) pairs))) ⌝ }
 {
     let mut at = first;
     let mut j = 0;
@@ -157,21 +158,7 @@ fn write_offsets(out: &mut [u8], buf: &[u8], pairs: [StringPair; 32], m: usize, 
         let text = text_in(buf, pairs, j);
         let place = 72 + 8 * j;
         wire_write::put_word8(out, place, at as u64);
-        at = at + text.len() + 1;
-        j += 1;
-    }
-}
-
-// The first m strings with their zero bytes, at `first`.
-fn write_texts(out: &mut [u8], buf: &[u8], pairs: [StringPair; 32], m: usize, first: usize)
-    requires { ⌜ (first + length (stringBytes (tab m (textIn (now buf) pairs))) ≤ length (now out)) × (m ≤ 64) ⌝ }
-    ensures { λ _. ⌜ now (out .exit) ≡ overwrite (now (out .entry)) first (stringBytes (tab m (textIn (now (buf .entry)) pairs))) ⌝ }
-{
-    let mut at = first;
-    let mut j = 0;
-    while j < m {
-        let text = text_in(buf, pairs, j);
-        put_text(out, at, text);
+        put_padded(out, at, text, 1);
         at = at + text.len() + 1;
         j += 1;
     }
@@ -196,6 +183,17 @@ fn places(buf: &[u8], pairs: [StringPair; 32], n: usize, len: usize) -> Layout
     }
 }
 
+// What follows the strings: zero bytes up to the image, the image, and zero bytes up to the end.
+fn write_image(out: &mut [u8], image: &[u8], at: Layout)
+    requires { ⌜ (at .image ≡ up8 (at .end)) × ((at .stop ≡ at .image + length (now image)) × ((at .size ≡ up8 (at .stop)) × (at .size ≤ length (now out)))) ⌝ }
+    ensures { λ _. ⌜ now (out .exit) ≡ overwrite (now (out .entry)) (at .end) (imageBytes at (now (image .entry))) ⌝ }
+{
+    let end = at.end;
+    let start = at.image;
+    put_zeros(out, end, start - end);
+    put_padded(out, start, image, at.size - at.stop);
+}
+
 // The whole binary, from the start of the output on.
 fn write_parts(
     out: &mut [u8],
@@ -206,21 +204,12 @@ fn write_parts(
     buf: &[u8],
     at: Layout,
 )
-    requires { ⌜ (n ≤ 32) × ((LayoutIs (textIn (now buf) pairs) n (length (now image)) at) × ((at .size ≤ length (now out)) × ((j : ℕ) → j < 2 * n → length (textIn (now buf) pairs j) ≤ 256))) ⌝ }
+    requires { ⌜ (n ≤ 32) × ((LayoutIs (textIn (now buf) pairs) n (length (now image)) at) × (at .size ≤ length (now out))) ⌝ }
     ensures { λ _. ⌜ now (out .exit) ≡ overwrite (now (out .entry)) 0 (written (given tags (now (image .entry)) (listed pairs n) (now (buf .entry)))) ⌝ }
 {
-    let strings = at.strings;
-    let end = at.end;
-    let start = at.image;
-    let stop = at.stop;
-    let size = at.size;
-    write_header(out, size);
-    write_entry(out, tags, n, start, image.len());
-    write_offsets(out, buf, pairs, 2 * n, strings);
-    write_texts(out, buf, pairs, 2 * n, strings);
-    put_zeros(out, end, start - end);
-    wire_write::copy_at(out, start, image);
-    put_zeros(out, stop, size - stop);
+    write_head(out, tags, n, at.image, image.len(), at.size);
+    write_strings(out, buf, pairs, 2 * n, at.strings);
+    write_image(out, image, at);
 }
 
 // 16 of the first n pairs of a list that starts with these 32.

@@ -71,7 +71,7 @@ write-parts-requires : tie.Need-write-parts-requires
 write-parts-requires c κs =
     let a = c .before .before .before .before .before .before .before .before .before .before .before .before .before .before .args in
     let p = sym (c .before .before .before .before .before .before .before .before .bad-pairs .ensures) ∙ c .before .before .before .before .before .before .before .if2 .left in
-    (few-pairs (a .buf .now) (a .pairs) (a .n) p, (c .before .before .before .before .before .places .ensures, (omega arith, short-texts (a .buf .now) (a .pairs) (a .n) p)))
+    (few-pairs (a .buf .now) (a .pairs) (a .n) p, (c .before .before .before .before .before .places .ensures, omega arith))
 
 same-length : tie.Need-same-length
 same-length c = search needs
