@@ -1,9 +1,8 @@
 use borrow.Author.Needs.{needs}
 use native.Mathlib.Omega.{arith}
 use Prim.Native.Nat.{_+_, _-_, _≤_}
-use mathlib.Core.Path.{_≡_, refl, sym, ap, subst, _∙_}
+use mathlib.Core.Path.{_≡_, refl, ap, _∙_}
 use Rattle.bundle.specs.Table.{rowStart}
-use Rattle.bundle.specs.Accepted.{RowFits}
 use Rattle.bundle_reader.specs.Examined.{heldRow}
 use Rattle.bundle_reader.proofs.RowLaws.{next-start, row-here}
 use Rattle.bundle_reader.proofs.row_of.Statement.{statement}

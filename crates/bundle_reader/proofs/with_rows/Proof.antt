@@ -1,4 +1,3 @@
-use borrow.Author.Needs.{needs}
 use mathlib.Core.Path.{ap, _∙_}
 use Rattle.entry_id.specs.Rules.{idRules}
 use Rattle.bundle_reader.proofs.StageLaws.{examined-is, counted-rows}
