@@ -10,9 +10,6 @@ ghost use Rattle.wire.specs.Stop.{earlier};
 ghost use Rattle.offload_binary.specs.Lists.{slots};
 ghost use Rattle.offload_binary.specs.Binary.{bytesAt, run, noPair, badKinds, keyIn, badKeys};
 
-// The first four bytes of a binary.
-pub const MAGIC: [u8; 4] = [0x10, 0xFF, 0x10, 0xAD];
-
 // The bytes that a part names, as far as they lie inside.
 pub fn bytes_at(s: &[u8], part: Part) -> &[u8]
     ensures { λ r. ⌜ now r ≡ bytesAt (now (s .entry)) part ⌝ }

@@ -107,6 +107,9 @@ fn read_pairs(o: &[u8], from: usize, table: usize, n: usize) -> ReadPairs
     ReadPairs { bad: false, pairs }
 }
 
+// The first four bytes of a binary.
+const MAGIC: [u8; 4] = [0x10, 0xFF, 0x10, 0xAD];
+
 // 13: under 32 bytes left, wrong first four, version not 1.
 fn bad_head(b: &[u8]) -> bool
     ensures { λ r. ⌜ r ≡ badHead (now (b .entry)) ⌝ }
@@ -114,7 +117,7 @@ fn bad_head(b: &[u8]) -> bool
     if b.len() < 32 {
         return true;
     }
-    let magic = offload_binary_parts::MAGIC;
+    let magic = MAGIC;
     if wire_read::same_bytes(
         offload_binary_parts::bytes_at(b, Part { start: 0, len: 4 }),
         &magic,
