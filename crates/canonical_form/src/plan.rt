@@ -91,13 +91,13 @@ pub(crate) fn put_text(out: &mut [u8], id: &[u8], at: usize, dashes: usize, upto
     ensures { λ _. ⌜ now (out .exit) ≡ overwrite (now (out .entry)) 0 (headText (now (id .entry)) at dashes upto) ⌝ }
 {
     if dashes == 0 {
-        wire_write::copy_at(out, 0, &id[..upto]);
+        wire_copy::copy_at(out, 0, &id[..upto]);
         return;
     }
     let d = [b'-', b'-'];
-    wire_write::copy_at(out, 0, &id[..at]);
-    wire_write::copy_at(out, at, &d[..dashes]);
-    wire_write::copy_at(out, at + dashes, &id[at..upto]);
+    wire_copy::copy_at(out, 0, &id[..at]);
+    wire_copy::copy_at(out, at, &d[..dashes]);
+    wire_copy::copy_at(out, at + dashes, &id[at..upto]);
 }
 
 // Writes the first n features to out from p on.
@@ -109,7 +109,7 @@ pub(crate) fn put_pieces(out: &mut [u8], p: usize, id: &[u8], t: &[usize], n: us
     let mut i = 0;
     while i < n {
         let c = chunk(id, t[i]);
-        wire_write::copy_at(out, q, c);
+        wire_copy::copy_at(out, q, c);
         q += c.len();
         i += 1;
     }

@@ -125,7 +125,7 @@ fn put_row(out: &mut [u8], at: usize, offset: usize, size: usize, id: &[u8])
     wire_write::put_word8(out, at, offset as u64);
     wire_write::put_word8(out, at + 8, size as u64);
     wire_write::put_word8(out, at + 16, id.len() as u64);
-    wire_write::copy_at(out, at + 24, id);
+    wire_copy::copy_at(out, at + 24, id);
 }
 
 // The rows of n entries in an order, from 32 on: the images are to lie one after another from `base` on.
@@ -177,7 +177,7 @@ fn put_images(
         let r = rows[k];
         let start = r.image_start;
         let size = r.image_len;
-        wire_write::copy_at(out, at, &src[start..start + size]);
+        wire_copy::copy_at(out, at, &src[start..start + size]);
         at = at + size;
         i += 1;
     }
@@ -198,7 +198,7 @@ fn put_bundle(
     requires { ⌜ (base ≡ packedEnd (inOrder (now src) rows (now texts) (now lens) n order)) × (packedLength (inOrder (now src) rows (now texts) (now lens) n order) ≤ length (now out)) ⌝ }
     ensures { λ _. ⌜ now (out .exit) ≡ over (encode (inOrder (now (src .entry)) rows (now (texts .entry)) (now (lens .entry)) n order)) (now (out .entry)) ⌝ }
 {
-    wire_write::copy_at(out, 0, b"__CLANG_OFFLOAD_BUNDLE__");
+    wire_copy::copy_at(out, 0, b"__CLANG_OFFLOAD_BUNDLE__");
     wire_write::put_word8(out, 24, n as u64);
     put_table(rows, texts, lens, n, order, base, out);
     put_images(src, rows, n, order, base, out);

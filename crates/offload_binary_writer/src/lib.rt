@@ -102,7 +102,7 @@ fn put_zeros(out: &mut [u8], at: usize, n: usize)
     ensures { λ _. ⌜ now (out .exit) ≡ overwrite (now (out .entry)) at (replicate n 0) ⌝ }
 {
     let zeros = [0u8; 8];
-    wire_write::copy_at(out, at, &zeros[..n]);
+    wire_copy::copy_at(out, at, &zeros[..n]);
 }
 
 // Bytes at `at`, and n zero bytes behind them.
@@ -110,7 +110,7 @@ fn put_padded(out: &mut [u8], at: usize, bytes: &[u8], n: usize)
     requires { ⌜ (at + length (now bytes) + n ≤ length (now out)) × (n ≤ 8) ⌝ }
     ensures { λ _. ⌜ now (out .exit) ≡ overwrite (now (out .entry)) at (now (bytes .entry) ++ replicate n 0) ⌝ }
 {
-    wire_write::copy_at(out, at, bytes);
+    wire_copy::copy_at(out, at, bytes);
     put_zeros(out, at + bytes.len(), n);
 }
 

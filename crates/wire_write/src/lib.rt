@@ -1,64 +1,14 @@
-// Bytes written: copies, and little-endian words.
-// Each function is total: a write that does not fit leaves the output as it was.
+// Little-endian words written. A word that does not fit leaves the output as it was.
 ghost use mathlib.Core.Path.{_≡_};
-ghost use Prim.Native.Nat.{_+_, _≤_};
-ghost use lib.ListN.{length, drop, replicate};
-ghost use lib.Seq.{paste};
 ghost use Rattle.wire.specs.Word.{bytesOf};
 ghost use Rattle.wire.specs.Bytes.{overwrite};
-
-fn blank() -> [u8; 268435456]
-    ensures { λ r. ⌜ r ≡ replicate 268435456 0 ⌝ }
-{
-    [0u8; 268435456]
-}
-
-// Copies n bytes of `src` through a local array that is then dropped whole: the two loops compile to one memmove, and the array is never laid out.
-// So a part can be as long as a single copy should be: above a size of its own (here a hundred MiB or two) the C library copies past the cache.
-fn copy_part(out: &mut [u8], at: usize, src: &[u8], from: usize, n: usize)
-    requires { ⌜ (at + n ≤ length (now out)) × ((from + n ≤ length (now src)) × (n ≤ 268435456)) ⌝ }
-    ensures { λ _. ⌜ now (out .exit) ≡ paste (now (out .entry)) at (drop from (now (src .entry))) n ⌝ }
-{
-    let mut part = blank();
-    let mut k = 0;
-    while k < n {
-        part[k] = src[from + k];
-        k += 1;
-    }
-    let mut j = 0;
-    while j < n {
-        out[at + j] = part[j];
-        j += 1;
-    }
-}
-
-// Copies `src` to `out` from `at` on, where it fits.
-pub fn copy_at(out: &mut [u8], at: usize, src: &[u8])
-    ensures { λ _. ⌜ now (out .exit) ≡ overwrite (now (out .entry)) at (now (src .entry)) ⌝ }
-{
-    if out.len() < at {
-        return;
-    }
-    if out.len() - at < src.len() {
-        return;
-    }
-    let mut i = 0;
-    while i < src.len() {
-        let mut n = src.len() - i;
-        if 268435456 < n {
-            n = 268435456;
-        }
-        copy_part(out, at + i, src, i, n);
-        i += n;
-    }
-}
 
 // Writes the 2 low bytes of `v` to `out` from `at` on, where they fit.
 pub fn put_word2(out: &mut [u8], at: usize, v: u64)
     ensures { λ _. ⌜ now (out .exit) ≡ overwrite (now (out .entry)) at (bytesOf 2 v) ⌝ }
 {
     let b = [(v % 256) as u8, (v / 256 % 256) as u8];
-    copy_at(out, at, &b);
+    wire_copy::copy_at(out, at, &b);
 }
 
 // Writes the 4 low bytes of `v` to `out` from `at` on, where they fit.
@@ -74,7 +24,7 @@ pub fn put_word4(out: &mut [u8], at: usize, v: u64)
         (v2 % 256) as u8,
         (v3 % 256) as u8,
     ];
-    copy_at(out, at, &b);
+    wire_copy::copy_at(out, at, &b);
 }
 
 // Writes the 8 bytes of `v` to `out` from `at` on, where they fit.
@@ -98,5 +48,5 @@ pub fn put_word8(out: &mut [u8], at: usize, v: u64)
         (v6 % 256) as u8,
         (v7 % 256) as u8,
     ];
-    copy_at(out, at, &b);
+    wire_copy::copy_at(out, at, &b);
 }

@@ -8,8 +8,8 @@ use Prim.Native.Nat.{ℕ, _≤_, _<_, _-_, _+_}
 use mathlib.Core.List.{List}
 use lib.ListN.{length, getD, drop, replicate, length-replicate, length-set, length-drop}
 use lib.Seq.{paste, paste-zero, paste-suc, getD-drop}
-use Rattle.wire_write.proofs.copy_part.Statement.{statement}
-use Rattle.wire_write.proofs.copy_part.Tie as tie
+use Rattle.wire_copy.proofs.copy_part.Statement.{statement}
+use Rattle.wire_copy.proofs.copy_part.Tie as tie
 
 -- The length is a variable here, so that nothing counts it out.
 length-blank : (n : ℕ) (part : List ℕ) → part ≡ replicate n 0 → length part ≡ n

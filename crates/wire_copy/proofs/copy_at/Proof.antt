@@ -6,8 +6,8 @@ use Prim.Native.Nat.{_≤_, _<_, _-_, _+_}
 use lib.ListN.{length}
 use lib.Seq.{paste, paste-zero}
 use Rattle.wire.proofs.OverwriteLaws.{paste-part, paste-all, overwrite-not}
-use Rattle.wire_write.proofs.copy_at.Statement.{statement}
-use Rattle.wire_write.proofs.copy_at.Tie as tie
+use Rattle.wire_copy.proofs.copy_at.Statement.{statement}
+use Rattle.wire_copy.proofs.copy_at.Tie as tie
 
 abbrev Inv-loop : tie.InvT-loop
 Inv-loop out₀ at src i₀ out i = (i ≤ length src) × ((out ≡ paste out₀ at src i) × (length out ≡ length out₀))
