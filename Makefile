@@ -12,6 +12,7 @@ VERSION := 0.1.0
 TOOL := target/offload
 PREFIX := /usr/local
 LLVM := llvm
+DAMAGED := 2000
 
 .PHONY: test proved-test demo prove library harness calls stack compare second-test tool tool-test example install install-test damage bench compiler tools
 
@@ -22,7 +23,7 @@ test: tools
 
 # What the gate runs on the proved library.
 proved-test: harness
-	$(MAKE) --no-print-directory -j2 -O -o library -o harness calls stack compare tool-test example install-test damage LLVM=
+	$(MAKE) --no-print-directory -j2 -O -o library -o harness calls stack compare tool-test example install-test damage DAMAGED=500 LLVM=
 
 # What the tool does with a real bundle.
 demo: tool
@@ -95,7 +96,7 @@ damage: tool
 	rm -rf target/damage
 	mkdir -p target/damage
 	$(POSIX) -o target/make-damage tests/damage.c
-	target/make-damage 2000 target/damage samples/bundles/* samples/binaries/*
+	target/make-damage $(DAMAGED) target/damage samples/bundles/* samples/binaries/*
 	timeout 1800 tests/damage.sh $(TOOL) target/damage $(LLVM)
 
 # The library's speed beside that of the second program, plain C, memcpy, LLVM's tools and, with llvm-19-dev, LLVM's library.

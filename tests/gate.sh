@@ -22,8 +22,9 @@ beside_the_edits() {
 nice -n 15 make --no-print-directory second-test >"$kept/second" 2>&1 &
 second=$!
 failed=0
-# Ten jobs, since `rt ci` waits for the last crate of a level and the last edit of a group. The edits give way to what runs beside them, a longer chain.
-RT_JOBS=10 nice rt ci | tee "$kept/verdict" | beside_the_edits || failed=1
+# Five jobs: as many as the largest level of crates has, since `rt ci` waits for the last of a group; more only take longer each. The edits give way to
+# what runs beside them, a longer chain.
+RT_JOBS=5 nice rt ci | tee "$kept/verdict" | beside_the_edits || failed=1
 wait "$second" || failed=1
 cat "$kept/second" "$kept/library" || failed=1
 [[ $failed == 0 ]] || { echo 'the gate failed'; exit 1; }
