@@ -12,7 +12,7 @@ use lib.ListN.{length, getD, take, drop, set, length-append, length-take, length
 use lib.Seq.{take-suc, take-all, take-suc-set, take-set-le, take-set-lt, drop-set-lt, getD-set-same, getD-take, drop-cons, split-at, append-snoc, length-take-le, take-at, drop-at, getD-at}
 use Rattle.wire.specs.Order.{insertBy, risingBy, sortBy, distinctBy}
 use Rattle.wire.specs.Lists.{any}
-use Rattle.wire.proofs.Bools.{cases, cond-ind, is-true, is-false, of-true, and-l, and-r, and-true}
+use Rattle.wire.proofs.Bools.{cases, is-true, is-false, of-true, and-l, and-r, and-true}
 use Rattle.wire.proofs.ByteLaws.{before-irrefl, before-trans, same-eq, same-common, same-length, ne-same, common-within}
 use Rattle.wire.proofs.SortLaws.{distinct-rising, rising-distinct, sort-any}
 use Rattle.wire.specs.Bytes.{before, same, common}
