@@ -12,7 +12,7 @@ use Rattle.wire.specs.First.{first}
 use Rattle.wire.specs.Stop.{Stop, stop, _⨾_, stopIf, stopWhen, stopAt}
 use Rattle.wire.proofs.Bools.{byBool, and-both, both-and, not-no, yes-not}
 use Rattle.wire.proofs.FirstLaws.{first-none}
-use Rattle.wire.proofs.StopLaws.{⨾-go, ⨾-next, ⨾-left, ⨾-right, stopIf-no, stopAt-no, stopAt-found, stopAt-clear}
+use Rattle.wire.proofs.StopLaws.{⨾-go, ⨾-next, ⨾-assoc, ⨾-left, ⨾-right, stopIf-no, stopAt-no, stopAt-found, stopAt-clear}
 use Rattle.entry_id.specs.IdRules.{IdRules, Lawful}
 use Rattle.bundle.specs.Check.{badId, rowsStop}
 use Rattle.bundle.specs.Records.{recordAt, rowsOf, badPart, recordsStop}
@@ -21,7 +21,7 @@ use Rattle.bundle_reader.specs.Examined.{filled, slots, form, formLength
 use Rattle.bundle_reader.specs.declared.Refusal.{Refusal}
 use Rattle.bundle.proofs.CheckLaws.{unrefused-go}
 use Rattle.bundle.specs.declared.EntryRecord.{EntryRecord}
-use Rattle.bundle_reader.proofs.StageLaws.{⨾-assoc, stops-first, none-left}
+use Rattle.bundle_reader.proofs.StageLaws.{stops-first, none-left}
 use Rattle.bundle_reader.proofs.SlotLaws.{held}
 
 -- an ID part of 1 to 256 bytes lies in its buffer

@@ -13,7 +13,7 @@ use Rattle.wire.specs.First.{first}
 use Rattle.wire.specs.Stop.{Stop, go, stop, _⨾_, stopAt, earlier}
 use Rattle.wire.proofs.Bools.{byBool}
 use Rattle.wire.proofs.FirstLaws.{first-is, first-none, first-before, any-same}
-use Rattle.wire.proofs.StopLaws.{⨾-go, ⨾-stop, ⨾-next, ⨾-left, ⨾-right, stopAt-same, stopAt-found, stopAt-clear}
+use Rattle.wire.proofs.StopLaws.{⨾-go, ⨾-stop, ⨾-first, ⨾-next, ⨾-left, ⨾-right, stopAt-same, stopAt-found, stopAt-clear}
 use Rattle.entry_id.specs.IdRules.{IdRules, Lawful}
 use Rattle.bundle.specs.Table.{Row, count, rowStart, row, tableEnd}
 use Rattle.bundle.specs.Check.{badRow, badId, outside, meanSame, mix, unrefused, headStop, tableStop, rowsStop, bundleStop, check}
@@ -42,16 +42,8 @@ past k n p r rest t e h q = rw (stopAt-clear k n p r e h) (q ∙ sym (⨾-go res
 pub no-number : (k : ℕ) → k ≤ 0 → k ≡ 0
 no-number k h = omega arith
 
-pub ⨾-assoc : (a b c : Stop) → (a ⨾ b) ⨾ c ≡ a ⨾ b ⨾ c
-⨾-assoc a b c = cases (a .number) refl
-  where
-    cases : (k : ℕ) → a .number ≡ k → (a ⨾ b) ⨾ c ≡ a ⨾ b ⨾ c
-    cases zero e = ap (λ z. z ⨾ c) (⨾-next a b e) ∙ sym (⨾-next a (b ⨾ c) e)
-    cases (suc k) e = ap (λ z. z ⨾ c) (⨾-stop a b k e) ∙ ⨾-stop a c k e ∙ sym (⨾-stop a (b ⨾ c) k e)
-
 pub stops-first : (a b : Stop) (k i : ℕ) → 0 < k → stop k i ≡ a → stop k i ≡ a ⨾ b
-stops-first a b zero i h e = absurd (omega arith)
-stops-first a b (suc k) i h e = e ∙ sym (⨾-stop a b k (ap (λ t. t .number) (sym e)))
+stops-first a b k i h e = e ∙ sym (⨾-first a b k h (ap (λ t. t .number) (sym e)))
 
 pub none-left : (a : Stop) (k i v : ℕ) → 0 < k → stop k i ≡ a → unrefused a v ≡ 0
 none-left a zero i v h e = absurd (omega arith)

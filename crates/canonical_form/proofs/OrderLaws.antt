@@ -33,7 +33,7 @@ same-whole a b h = elim (cases (eqb (length a) (length b))) [
   | inl e ↦ same-common a b (eqb-true (length a) (length b) e)
   | inr e ↦
       let n = eqb-false (length a) (length b) e in
-      let k = common-within a b in
+      let k = common-within a b .1 in
       ne-eqb (common a b) (length a) (λ q. n (omega arith)) ∙ sym (same-length a b n)
 ]
 

@@ -191,7 +191,7 @@ module _ (a b : List ℕ) (e n : ℕ) (r : Run notColon a 0 e) (c : n ≡ common
   heads-from zero h l = refl
   heads-from (suc k) h l =
       heads-from k (omega arith) (omega arith)
-      ∙ meet-step a b k (head-goes a e r k (omega arith)) (omega (arith, c, common-within a b)) (common-get a b k (omega (arith, c)))
+      ∙ meet-step a b k (head-goes a e r k (omega arith)) (omega (arith, c, common-within a b .1)) (common-get a b k (omega (arith, c)))
       ∙ ap (λ z. same (headOf (drop z a)) (headOf (drop z b))) (add-one k)
 
   meet-apart : n < e → same (headOf a) (headOf b) ≡ false
@@ -211,7 +211,7 @@ module _ (a b : List ℕ) (e n : ℕ) (r : Run notColon a 0 e) (c : n ≡ common
     meet-run : endsAt b e ≡ true → Run notColon b 0 e
     meet-run t = record {
       low = omega arith;
-      high = omega (arith, c, common-within a b);
+      high = omega (arith, c, common-within a b .1);
       passed = subst (λ z. T (every notColon z)) (part-start a e ∙ common-take a b e (omega (arith, c)) ∙ sym (part-start b e)) (r .passed);
       stop = stop-here b e t;
     }

@@ -6,7 +6,7 @@ use mathlib.Core.List.{List}
 use lib.ListN.{length, take}
 use Rattle.wire.specs.Order.{sortBy}
 use Rattle.wire.specs.Stop.{Stop, _⨾_}
-use Rattle.wire.proofs.StopLaws.{⨾-go, ⨾-stop}
+use Rattle.wire.proofs.StopLaws.{⨾-go, ⨾-first}
 use Rattle.entry_id.specs.IdRules.{IdRules, Lawful}
 use Rattle.bundle.specs.Table.{count, row}
 use Rattle.bundle.specs.Check.{bundleStop}
@@ -34,11 +34,6 @@ pub refused-out : (t : Stop) (number : ℕ) (bytes out : List ℕ) → 0 < numbe
 refused-out t zero bytes out h e = absurd (omega arith)
 refused-out t (suc k) bytes out h e = sym (output-stop t bytes out k e)
 
--- the first that stops stops the whole
-pub first-stops : (a b : Stop) (number : ℕ) → 0 < number → a .number ≡ number → a ⨾ b ≡ a
-first-stops a b zero h e = absurd (omega arith)
-first-stops a b (suc k) h e = ⨾-stop a b k e
-
 module _ (R : IdRules) (L : Lawful R) (s texts lens : List ℕ) (number place n : ℕ) (rows : List EntryRecord) (x : Examination R s texts lens number place n rows) where
   number-is : bundleStop R s .number ≡ number
   number-is = ap (λ t. t .number) (sym (x .stop-is))
@@ -50,7 +45,7 @@ module _ (R : IdRules) (L : Lawful R) (s texts lens : List ℕ) (number place n 
   module _ (out : List ℕ) (h : 0 < number) where
     stops : normaliseStop R s (length out) ≡ bundleStop R s
     unfolding normaliseStop
-    stops = first-stops (bundleStop R s) _ number h number-is
+    stops = ⨾-first (bundleStop R s) _ number h number-is
 
     pub refused-answer : _≡_ {A = Written} (record { number = number; place = place; length = 0 }) (normalise R s (length out))
     unfolding normalise

@@ -3,7 +3,7 @@ use Prim.Native.Nat.{ℕ, _≤_, _<_}
 use mathlib.Core.Path.{_≡_, refl, sym, ap, ap₂, _∙_}
 use mathlib.Core.List.{List}
 use lib.ListN.{length, getD}
-use Rattle.wire.proofs.StopLaws.{⨾-next}
+use Rattle.wire.proofs.StopLaws.{⨾-next, ⨾-first}
 use Rattle.entry_id.specs.IdRules.{IdRules, Lawful}
 use Rattle.bundle.specs.Entry.{Entry}
 use Rattle.bundle.specs.Records.{rowsOf, recordsStop}
@@ -16,7 +16,7 @@ use Rattle.bundle.specs.declared.Written.{Written}
 use Rattle.bundle.proofs.WriterLaws.{records-few, records-sound}
 use Rattle.normal_form.specs.Code.{inOrder, Filled, Placed}
 use Rattle.normal_form.proofs.GivenLaws.{filled, given-is, given-entries, given-placed}
-use Rattle.normal_form.proofs.NormaliseLaws.{answer-stop, refused-out, first-stops}
+use Rattle.normal_form.proofs.NormaliseLaws.{answer-stop, refused-out}
 
 module _ (R : IdRules) (n : ℕ) (records : List EntryRecord) (ids images : List ℕ) where
   module _ (L : Lawful R) (texts lens : List ℕ) (number place : ℕ) (j : Judged R (recordsStop R ids (length images) n records) (rowsOf ids records) n texts lens number place) where
@@ -30,7 +30,7 @@ module _ (R : IdRules) (n : ℕ) (records : List EntryRecord) (ids images : List
     module _ (out : List ℕ) (h : 0 < number) where
       stops : writeStop R n records ids images (length out) ≡ recordsStop R ids (length images) n records
       unfolding writeStop
-      stops = first-stops (recordsStop R ids (length images) n records) _ number h number-is
+      stops = ⨾-first (recordsStop R ids (length images) n records) _ number h number-is
 
       pub refused-answer : _≡_ {A = Written} (record { number = number; place = place; length = 0 }) (write R n records ids images (length out))
       unfolding write

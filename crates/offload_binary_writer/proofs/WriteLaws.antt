@@ -2,14 +2,14 @@
 use Prim.Native.Nat.{ℕ, zero, suc, _+_, _*_, _-_, _/_, _%_, _<_, _≤_}
 use native.Mathlib.Numerals.{add-one}
 use native.Mathlib.Omega.{arith}
-use mathlib.Core.Path.{_≡_, refl, sym, ap, ap₂, _∙_, subst}
-use mathlib.Core.List.{List, [], _∷_, _++_, append-assoc}
-use lib.ListN.{length, getD, take, drop, length-append, length-drop, take-append-drop}
-use lib.Seq.{drop-cons, take-at, drop-at, length-take-le}
+use mathlib.Core.Path.{_≡_, refl, sym, ap, ap₂, _∙_}
+use mathlib.Core.List.{List, [], _∷_, _++_}
+use lib.ListN.{length, getD, drop, length-append, length-drop}
+use lib.Seq.{drop-cons}
 use Rattle.wire.specs.Word.{bytesOf}
 use Rattle.wire.specs.Bytes.{overwrite}
 use Rattle.wire.proofs.WordLaws.{length-bytesOf}
-use Rattle.wire.proofs.OverwriteLaws.{overwrite-in, overwrite-then, length-overwrite}
+use Rattle.wire.proofs.OverwriteLaws.{overwrite-then, overwrite-apart, length-overwrite}
 use Rattle.wire.specs.Lists.{tab}
 use Rattle.offload_binary.specs.Binary.{magic}
 use Rattle.offload_binary.specs.Contents.{_∶_, fieldBytes, stringBytes, offsets}
@@ -64,47 +64,6 @@ unfolding headWords wordBytes fieldBytes bytesOf
 head-are tags count image len size =
     ap (λ l. bytesOf 8 7198539536 ++ (bytesOf 8 size ++ (bytesOf 8 32 ++ (bytesOf 8 40 ++ (l ++ (bytesOf 8 72 ++ (bytesOf 8 count ++ (bytesOf 8 image ++ (bytesOf 8 len ++ []))))))))) (sym (tags-are tags))
 
--- ---- two parts that lie apart can be written in either order
-
-over-at : (p v r y : List ℕ) (at : ℕ) → length p ≡ at → length y ≡ length v → overwrite (p ++ (v ++ r)) at y ≡ p ++ (y ++ r)
-over-at p v r y at e f =
-    let t : take at (p ++ (v ++ r)) ≡ p = take-at p (v ++ r) at e in
-    let g : drop (at + length y) (p ++ (v ++ r)) ≡ r = ap (drop (at + length y)) (sym (append-assoc p v r)) ∙ drop-at (p ++ v) r (at + length y) (length-append p v ∙ omega arith) in
-    overwrite-in (p ++ (v ++ r)) at y (omega (arith, length-append p (v ++ r), length-append v r))
-    ∙ ap₂ (λ a b. a ++ y ++ b) t g ∙ append-assoc p y r
-
-apart-in : (p u q v r x y : List ℕ) (a b : ℕ) → length p ≡ a → length x ≡ length u → length p + length u + length q ≡ b → length y ≡ length v
-    → overwrite (overwrite (p ++ (u ++ (q ++ (v ++ r)))) b y) a x ≡ overwrite (overwrite (p ++ (u ++ (q ++ (v ++ r)))) a x) b y
-apart-in p u q v r x y a b ea eu eb ev =
-    let far : (z : List ℕ) → length z ≡ length u → overwrite (p ++ (z ++ (q ++ (v ++ r)))) b y ≡ p ++ (z ++ (q ++ (y ++ r))) =
-    λ z e. ap (λ l. overwrite l b y) (sym (deep p z q (v ++ r))) ∙ over-at ((p ++ z) ++ q) v r y b (length-append (p ++ z) q ∙ omega (arith, length-append p z)) ev ∙ deep p z q (y ++ r) in
-    ap (λ l. overwrite l a x) (far u refl) ∙ over-at p u (q ++ (y ++ r)) x a ea eu
-    ∙ sym (ap (λ l. overwrite l b y) (over-at p u (q ++ (v ++ r)) x a ea eu) ∙ far x eu)
-  where
-    deep : (p z q t : List ℕ) → ((p ++ z) ++ q) ++ t ≡ p ++ (z ++ (q ++ t))
-    deep p z q t = simp append-assoc
-
-apart : (d x y : List ℕ) (a b : ℕ) → a + length x ≤ b → b + length y ≤ length d → overwrite (overwrite d b y) a x ≡ overwrite (overwrite d a x) b y
-apart d x y a b h k =
-    let n : ℕ = length x in
-    let m : ℕ = b - (a + n) in
-    let d₁ : List ℕ = drop a d in
-    let d₂ : List ℕ = drop n d₁ in
-    let d₃ : List ℕ = drop m d₂ in
-    let u : List ℕ = take n d₁ in
-    let q : List ℕ = take m d₂ in
-    let v : List ℕ = take (length y) d₃ in
-    let l₁ = length-drop a d in
-    let l₂ = length-drop n d₁ in
-    let l₃ = length-drop m d₂ in
-    let e : take a d ++ (u ++ (q ++ (v ++ drop (length y) d₃))) ≡ d =
-    ap (λ l. take a d ++ (u ++ (q ++ l))) (take-append-drop (length y) d₃) ∙ ap (λ l. take a d ++ (u ++ l)) (take-append-drop m d₂) ∙ ap (λ l. take a d ++ l) (take-append-drop n d₁) ∙ take-append-drop a d in
-    let c₀ : length (take a d) ≡ a = length-take-le a d (omega arith) in
-    let c₁ : length u ≡ n = length-take-le n d₁ (omega arith) in
-    let c₂ : length q ≡ m = length-take-le m d₂ (omega arith) in
-    let c₃ : length v ≡ length y = length-take-le (length y) d₃ (omega arith) in
-    subst (λ l. overwrite (overwrite l b y) a x ≡ overwrite (overwrite l a x) b y) e (apart-in (take a d) u q v (drop (length y) d₃) x y a b c₀ (sym c₁) (omega arith) (sym c₃))
-
 -- ---- a turn of the loop over the strings
 
 module _ (d : List ℕ) (f : ℕ → List ℕ) (first : ℕ) where
@@ -126,7 +85,7 @@ module _ (d : List ℕ) (f : ℕ → List ℕ) (first : ℕ) where
   offsets-turn j below room =
       let w : List ℕ = bytesOf 8 (first + length (strs j)) in
       let l : length w ≡ 8 = length-bytesOf 8 (first + length (strs j)) in
-      apart (overwrite d 72 (offs j)) w (strs j) (72 + 8 * j) first (omega arith) (omega (arith, length-overwrite d 72 (offs j)))
+      overwrite-apart (overwrite d 72 (offs j)) w (strs j) (72 + 8 * j) first (omega arith) (omega (arith, length-overwrite d 72 (offs j)))
       ∙ ap (λ o. overwrite o first (strs j)) (overwrite-then d 72 (72 + 8 * j) (offs j) w (omega (arith, length-offs j)) (omega arith) ∙ ap (overwrite d 72) (sym (offsets-more f first j)))
 
   pub strings-grow : (k j : ℕ) → length (strs j) ≤ length (strs (j + k))

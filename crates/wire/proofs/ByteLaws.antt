@@ -134,17 +134,12 @@ common-stop a b i ha hb h n =
     omega arith
 
 -- it is within both
-pub common-le : (a b : List ℕ) → common a b ≤ length a
+pub common-within : (a b : List ℕ) → (common a b ≤ length a) × (common a b ≤ length b)
 unfolding common
-common-le [] b = omega arith
-common-le (x ∷ a) [] = omega arith
-common-le (x ∷ a) (y ∷ b) = cond-ind (λ r. r ≤ suc (length a)) (eqb x y) (suc (common a b)) 0 (omega (arith, common-le a b)) (omega arith)
-
-pub common-within : (a b : List ℕ) → common a b ≤ length b
-unfolding common
-common-within [] b = omega arith
-common-within (x ∷ a) [] = omega arith
-common-within (x ∷ a) (y ∷ b) = cond-ind (λ r. r ≤ suc (length b)) (eqb x y) (suc (common a b)) 0 (omega (arith, common-within a b)) (omega arith)
+common-within [] b = (omega arith, omega arith)
+common-within (x ∷ a) [] = (omega arith, omega arith)
+common-within (x ∷ a) (y ∷ b) = let w = common-within a b in
+    cond-ind (λ r. (r ≤ suc (length a)) × (r ≤ suc (length b))) (eqb x y) (suc (common a b)) 0 (omega (arith, w .0), omega (arith, w .1)) (omega arith, omega arith)
 
 common-nil-r : (a : List ℕ) → common a [] ≡ 0
 unfolding common

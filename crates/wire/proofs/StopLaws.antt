@@ -21,6 +21,18 @@ pub ⨾-next : (a b : Stop) → a .number ≡ 0 → a ⨾ b ≡ b
 unfolding _⨾_
 ⨾-next a b e = rw (e, _⨾_)
 
+-- the first that stops stops the whole
+pub ⨾-first : (a b : Stop) (k : ℕ) → 0 < k → a .number ≡ k → a ⨾ b ≡ a
+⨾-first a b zero h e = absurd (omega arith)
+⨾-first a b (suc k) h e = ⨾-stop a b k e
+
+pub ⨾-assoc : (a b c : Stop) → (a ⨾ b) ⨾ c ≡ a ⨾ b ⨾ c
+⨾-assoc a b c = cases (a .number) refl
+  where
+    cases : (k : ℕ) → a .number ≡ k → (a ⨾ b) ⨾ c ≡ a ⨾ b ⨾ c
+    cases zero e = ap (λ z. z ⨾ c) (⨾-next a b e) ∙ sym (⨾-next a (b ⨾ c) e)
+    cases (suc k) e = ap (λ z. z ⨾ c) (⨾-stop a b k e) ∙ ⨾-stop a c k e ∙ sym (⨾-stop a (b ⨾ c) k e)
+
 pub ⨾-both : (a b : Stop) → a ≡ go → b ≡ go → a ⨾ b ≡ go
 ⨾-both a b p q = rw (p, q) (⨾-go go)
 

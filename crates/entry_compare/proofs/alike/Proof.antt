@@ -7,7 +7,7 @@ use lib.Dec.{eqb}
 use lib.ListN.{length, getD, drop, length-drop}
 use borrow.Author.Tests.{not-true, not-false}
 use Rattle.wire.specs.Bytes.{common}
-use Rattle.wire.proofs.ByteLaws.{common-le}
+use Rattle.wire.proofs.ByteLaws.{common-within}
 use Rattle.wire.specs.Lists.{agree}
 use Rattle.entry_id.specs.Canonical.{sameButSign}
 use Rattle.entry_compare.proofs.TestLaws.{rest-is, alike-lengths, alike-start, start-apart, alike-other, alike-next, next-apart, alike-end}
@@ -26,7 +26,7 @@ returns c = sym (alike-lengths _ _ (c .if1 .taken))
 loop-holds : tie.Need-loop-holds Inv-loop μ-loop
 loop-holds c = let a = c .before .before .before .args .a .now in
     let b = c .before .before .before .args .b .now in
-    (omega (arith, c .before .before .before .pre, common-le a b), c .if1 .left, alike-start a b _ (c .before .before .before .pre), start-apart a b _ (c .before .before .before .pre) (c .if1 .left))
+    (omega (arith, c .before .before .before .pre, common-within a b .0), c .if1 .left, alike-start a b _ (c .before .before .before .pre), start-apart a b _ (c .before .before .before .pre) (c .if1 .left))
 
 shared-slice-read-sign-byte : tie.Need-shared-slice-read-sign-byte Inv-loop μ-loop
 shared-slice-read-sign-byte c = search needs
@@ -76,7 +76,7 @@ add-at c = let l = c .before .before .before .before .before .before .before .be
     let b = c .before .before .before .before .before .before .before .before .before .before .before .before .before .args .b .now in
     let n = c .common-prefix in
     let e = n .ensures ∙ ap₂ common (rest-is a (l .at + 1)) (rest-is b (l .at + 1)) in
-    let k : l .at + 1 + n .result ≤ length a = omega (arith, e, common-le (drop (l .at + 1) a) (drop (l .at + 1) b), length-drop (l .at + 1) a) in
+    let k : l .at + 1 + n .result ≤ length a = omega (arith, e, common-within (drop (l .at + 1) a) (drop (l .at + 1) b) .0, length-drop (l .at + 1) a) in
     search needs
 
 loop-less : tie.Need-loop-less Inv-loop μ-loop
@@ -94,7 +94,7 @@ loop-again c = let l = c .before .before .before .before .before .before .before
     let n = c .common-prefix in
     let e = n .ensures ∙ ap₂ common (rest-is a (l .at + 1)) (rest-is b (l .at + 1)) in
     let s = ap₂ _&&_ (sym (c .before .before .before .before .before .before .sign-byte .ensures)) (sym (c .before .before .before .before .sign-byte2 .ensures)) ∙ not-false _ (c .before .before .before .if2 .left) in
-    (omega (arith, e, common-le (drop (l .at + 1) a) (drop (l .at + 1) b), length-drop (l .at + 1) a), l .inv .1, alike-next a b (l .at) (l .inv .1) (l .inv .2) (omega arith) s (n .result) e, next-apart a b (l .at) (l .inv .1) (l .inv .2) (omega arith) s (n .result) e)
+    (omega (arith, e, common-within (drop (l .at + 1) a) (drop (l .at + 1) b) .0, length-drop (l .at + 1) a), l .inv .1, alike-next a b (l .at) (l .inv .1) (l .inv .2) (omega arith) s (n .result) e, next-apart a b (l .at) (l .inv .1) (l .inv .2) (omega arith) s (n .result) e)
 
 returns-3 : tie.Need-returns-3 Inv-loop μ-loop
 returns-3 c = let l = c .before .loop in
