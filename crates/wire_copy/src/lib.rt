@@ -5,16 +5,18 @@ ghost use lib.ListN.{length, drop, replicate};
 ghost use lib.Seq.{paste};
 ghost use Rattle.wire.specs.Bytes.{overwrite};
 
-fn blank() -> [u8; 268435456]
-    ensures { λ r. ⌜ r ≡ replicate 268435456 0 ⌝ }
+// How many bytes go in one part: their array lies on the stack wherever the compiler does not drop it.
+const PART: usize = 16384;
+
+fn blank() -> [u8; PART]
+    ensures { λ r. ⌜ r ≡ replicate 16384 0 ⌝ }
 {
-    [0u8; 268435456]
+    [0u8; PART]
 }
 
-// Copies n bytes of `src` through a local array that is then dropped whole: the two loops compile to one memmove, and the array is never laid out.
-// So a part can be as long as a single copy should be: above a size of its own (here a hundred MiB or two) the C library copies past the cache.
+// Copies n bytes of `src` through a local array. With optimisation the two loops are one memmove and the array is gone.
 fn copy_part(out: &mut [u8], at: usize, src: &[u8], from: usize, n: usize)
-    requires { ⌜ (at + n ≤ length (now out)) × ((from + n ≤ length (now src)) × (n ≤ 268435456)) ⌝ }
+    requires { ⌜ (at + n ≤ length (now out)) × ((from + n ≤ length (now src)) × (n ≤ 16384)) ⌝ }
     ensures { λ _. ⌜ now (out .exit) ≡ paste (now (out .entry)) at (drop from (now (src .entry))) n ⌝ }
 {
     let mut part = blank();
@@ -43,8 +45,8 @@ pub fn copy_at(out: &mut [u8], at: usize, src: &[u8])
     let mut i = 0;
     while i < src.len() {
         let mut n = src.len() - i;
-        if 268435456 < n {
-            n = 268435456;
+        if PART < n {
+            n = PART;
         }
         copy_part(out, at + i, src, i, n);
         i += n;

@@ -16,7 +16,7 @@ abbrev μ-loop : tie.MeasureT-loop
 μ-loop out₀ at src i₀ out i = length src - i
 
 -- what holds of n after the `if`
-part : (c : tie.Joined3 Inv-loop μ-loop) → (c .if3 .n ≤ 268435456) × ((0 < c .if3 .n) × (c .before .before .loop .i + c .if3 .n ≤ length (c .before .before .before .before .before .before .before .args .src .now)))
+part : (c : tie.Joined3 Inv-loop μ-loop) → (c .if3 .n ≤ 16384) × ((0 < c .if3 .n) × (c .before .before .loop .i + c .if3 .n ≤ length (c .before .before .before .before .before .before .before .args .src .now)))
 part c = ⊎-elim (λ w. omega arith) (λ w. omega arith) (c .if3 .came)
 
 returns : tie.Need-returns Inv-loop μ-loop

@@ -11,18 +11,18 @@ use lib.Seq.{paste, paste-zero, paste-suc, getD-drop}
 use Rattle.wire_copy.proofs.copy_part.Statement.{statement}
 use Rattle.wire_copy.proofs.copy_part.Tie as tie
 
--- The length is a variable here, so that nothing counts it out.
+-- the length is a variable here, so that nothing counts it out
 length-blank : (n : ℕ) (part : List ℕ) → part ≡ replicate n 0 → length part ≡ n
 length-blank n part e = ap length e ∙ length-replicate n 0
 
 abbrev Inv-loop : tie.InvT-loop
-Inv-loop out at src from n part₀ k₀ part k = (k ≤ n) × ((length part ≡ 268435456) × ((q : ℕ) → q < k → getD part q 0 ≡ getD src (from + q) 0))
+Inv-loop out at src from n part₀ k₀ part k = (k ≤ n) × ((length part ≡ 16384) × ((q : ℕ) → q < k → getD part q 0 ≡ getD src (from + q) 0))
 
 abbrev μ-loop : tie.MeasureT-loop
 μ-loop out at src from n part₀ k₀ part k = n - k
 
 abbrev Inv-loop2 : tie.InvT-loop2
-Inv-loop2 out₀ at src from n part k j₀ out j = (j ≤ n) × ((length part ≡ 268435456) × (((q : ℕ) → q < n → getD part q 0 ≡ getD src (from + q) 0) × ((out ≡ paste out₀ at (drop from src) j) × (length out ≡ length out₀))))
+Inv-loop2 out₀ at src from n part k j₀ out j = (j ≤ n) × ((length part ≡ 16384) × (((q : ℕ) → q < n → getD part q 0 ≡ getD src (from + q) 0) × ((out ≡ paste out₀ at (drop from src) j) × (length out ≡ length out₀))))
 
 abbrev μ-loop2 : tie.MeasureT-loop2
 μ-loop2 out₀ at src from n part k j₀ out j = n - j
@@ -31,7 +31,7 @@ blank-requires : tie.Need-blank-requires Inv-loop μ-loop Inv-loop2 μ-loop2
 blank-requires c κs = search needs
 
 loop-holds : tie.Need-loop-holds Inv-loop μ-loop Inv-loop2 μ-loop2
-loop-holds c = (search needs, (length-blank 268435456 _ (c .blank .ensures), below-none _))
+loop-holds c = (search needs, (length-blank 16384 _ (c .blank .ensures), below-none _))
 
 add-part : tie.Need-add-part Inv-loop μ-loop Inv-loop2 μ-loop2
 add-part c = omega arith
