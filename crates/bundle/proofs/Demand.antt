@@ -15,7 +15,7 @@ use Rattle.bundle.specs.Table.{count, row}
 use Rattle.bundle.specs.Check.{badId}
 use Rattle.bundle.specs.Entry.{imageOf, entryOf}
 use Rattle.bundle.specs.Accepted.{Accepted}
-use Rattle.bundle.specs.Demand.{States, SameId, SameEntry, SameEntries, EveryDemand3}
+use Rattle.bundle.specs.Demand.{States, SameId, SameEntry, SameEntries, Demand3}
 use Rattle.bundle.proofs.EntryLaws.{length-imageOf}
 use Rattle.bundle.proofs.SameLaws.{entry, Holds, holds-at, at-holds}
 use Rattle.bundle.proofs.NormalLaws.{kept, same-normal, normal-holds}
@@ -98,15 +98,13 @@ module _ (a b : List ℕ) (acc : Accepted idRules a) (bcc : Accepted idRules b) 
     at-holds idRules b a (λ j l. let k = s .right j l in (k .0, k .1, sym (same-entry (k .0) j (k .1) l (k .2)))),
   )
 
-pub demand3 : EveryDemand3
-demand3 a b device pa pb wa wb =
-    let acc = check-exact idRules a .accepted .0 pa in
-    let bcc = check-exact idRules b .accepted .0 pb in
-    record {
-      same-bytes = (
-        (λ e. same-entries a b acc bcc (normal-holds idRules idRules-lawful a b acc bcc wa wb e) (normal-holds idRules idRules-lawful b a bcc acc wb wa (sym e))),
+pub demand3 : Demand3
+demand3 = record {
+  same-bytes = λ a b pa pb.
+      let acc = check-exact idRules a .accepted .0 pa in
+      let bcc = check-exact idRules b .accepted .0 pb in (
+        (λ e. same-entries a b acc bcc (normal-holds idRules idRules-lawful a b acc bcc e) (normal-holds idRules idRules-lawful b a bcc acc (sym e))),
         (λ s. let h = entries-same a b acc bcc s in same-normal idRules idRules-lawful a b acc bcc (h .0) (h .1)),
       );
-      left = kept idRules idRules-lawful a acc wa device;
-      right = kept idRules idRules-lawful b bcc wb device;
-    }
+  kept = λ s device p w. kept idRules idRules-lawful s (check-exact idRules s .accepted .0 p) w device;
+}

@@ -1,9 +1,9 @@
 -- The normal form of an accepted bundle: its length, that it reads back sorted, and what normalising gives back. Assumes nothing.
-use Prim.Native.Nat.{ℕ, suc, _+_, _≤_}
+use Prim.Native.Nat.{ℕ, suc, _+_, _^_, _<_, _≤_}
 use native.Mathlib.Omega.{arith}
 use mathlib.Core.Path.{_≡_, sym, ap, _∙_}
 use mathlib.Core.List.{List}
-use lib.ListN.{length}
+use lib.ListN.{length, getD}
 use borrow.Author.Tests.{le-ltb}
 use Rattle.wire.specs.Limit.{limit}
 use Rattle.wire.specs.Order.{sortBy}
@@ -13,15 +13,15 @@ use Rattle.wire.proofs.SortLaws.{sort-in, sort-out, sort-length, sort-total, so
 use Rattle.entry_id.specs.IdRules.{IdRules, Lawful}
 use Rattle.bundle.specs.Table.{count, row}
 use Rattle.bundle.specs.Check.{unrefused, check}
-use Rattle.bundle.specs.Entry.{Entry, entries}
+use Rattle.bundle.specs.Entry.{Entry, noEntry, entryOf, entries}
 use Rattle.bundle.specs.Pick.{pick}
 use Rattle.bundle.specs.Accepted.{Accepted}
 use Rattle.bundle.specs.Layout.{entrySize, packedLength, encode, Writable, ReadsBack}
 use Rattle.bundle.specs.Normal.{byId, roomStop, answer, output, normal, normalLength, normaliseStop, normalise, normalised, RefusalWritesNothing}
 use Rattle.bundle.specs.Demand.{SamePick, Writes, Kept}
 use Rattle.bundle.proofs.AcceptLaws.{accepted-go}
-use Rattle.bundle.proofs.EntryLaws.{entries-length, entries-writable}
-use Rattle.bundle.proofs.PackLaws.{length-encode, encode-reads-back}
+use Rattle.bundle.proofs.EntryLaws.{length-imageOf, entries-length, entries-at, entries-writable}
+use Rattle.bundle.proofs.PackLaws.{length-encode, encode-reads-back, encode-entries, total-bound}
 use Rattle.bundle.proofs.SameLaws.{Holds, pickStop-entries, pickedImage-entries}
 use Rattle.bundle.proofs.Theorems.{check-exact}
 
@@ -121,9 +121,26 @@ module _ (R : IdRules) (L : Lawful R) where
   same-normal a b p q h g =
       ap encode (sort-same byId (entries R a) (entries R b) (accepted-writable a p .distinct) (accepted-writable b q .distinct) h g)
 
-  pub normal-holds : (a b : List ℕ) → Accepted R a → Accepted R b → length (normal R a) ≤ limit → length (normal R b) ≤ limit → normal R a ≡ normal R b → Holds R a b
-  normal-holds a b p q wa wb e =
-      same-sort byId (entries R a) (entries R b) (sym (normal-reads-back a p wa .entries-back) ∙ ap (entries R) e ∙ normal-reads-back b q wb .entries-back)
+  -- above the limit too: 64 entries of at most 24, 256 and a container's bytes are less than 8 bytes can say
+  entry-size : (s : List ℕ) → Accepted R s → (i : ℕ) → i < length (entries R s) → entrySize (getD (entries R s) i noEntry) ≤ 1073742104
+  unfolding entryOf
+  entry-size s a i h =
+      let l : i < count s = omega (arith, entries-length R s (count s) (row s)) in
+      let g = a .sense .in-range i l in
+      rw (entries-at R s (count s) (row s) i l)
+      (omega (arith, L .canon-short (row s i .id), length-imageOf s (row s i) (g .within), g .within, a .frame .fits))
+
+  normal-size : (s : List ℕ) → Accepted R s → packedLength (sortBy byId (entries R s)) < 256 ^ 8
+  unfolding packedLength
+  normal-size s a =
+      omega (arith, sort-packedLength (entries R s), total-bound entrySize (entries R s) (entry-size s a), entries-length R s (count s) (row s), a .frame .few)
+
+  normal-entries : (s : List ℕ) → Accepted R s → entries R (normal R s) ≡ sortBy byId (entries R s)
+  unfolding normal
+  normal-entries s a = encode-entries R L (sortBy byId (entries R s)) (sort-writable R (entries R s) (accepted-writable s a)) (normal-size s a)
+
+  pub normal-holds : (a b : List ℕ) → Accepted R a → Accepted R b → normal R a ≡ normal R b → Holds R a b
+  normal-holds a b p q e = same-sort byId (entries R a) (entries R b) (sym (normal-entries a p) ∙ ap (entries R) e ∙ normal-entries b q)
 
 pub refusal-writes-nothing : (R : IdRules) → RefusalWritesNothing R
 unfolding normalise normalised answer output

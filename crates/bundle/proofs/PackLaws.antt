@@ -1,5 +1,5 @@
 -- The packed form is a layout, and its length. Assumes nothing.
-use Prim.Native.Nat.{ℕ, zero, suc, _+_, _<_, _≤_}
+use Prim.Native.Nat.{ℕ, zero, suc, _+_, _*_, _^_, _<_, _≤_}
 use native.Mathlib.Omega.{arith}
 use native.Mathlib.Nat.{add-assoc}
 use mathlib.Core.Path.{_≡_, refl, ap, _∙_}
@@ -9,9 +9,9 @@ use lib.Seq.{take-at, drop-at, split-at}
 use Rattle.wire.specs.Lists.{total}
 use Rattle.entry_id.specs.IdRules.{IdRules, Lawful}
 use Rattle.wire.specs.Limit.{limit}
-use Rattle.bundle.specs.Entry.{Entry, noEntry}
+use Rattle.bundle.specs.Entry.{Entry, noEntry, entries}
 use Rattle.bundle.specs.Layout.{packedEnd, packedLength, images, packed, encode, noRow, Layout, Writable, ReadsBack}
-use Rattle.bundle.proofs.ReadBack.{length-layout, layout-reads-back}
+use Rattle.bundle.proofs.ReadBack.{length-layout, layout-entries, layout-reads-back}
 
 pub length-packed : (from : ℕ) (es : List Entry) → length (packed from es) ≡ length es
 unfolding packed
@@ -72,3 +72,14 @@ length-encode es = omega (arith, length-layout es _ _ (packed-layout es), packed
 pub encode-reads-back : (R : IdRules) → Lawful R → (es : List Entry) → Writable R es → packedLength es ≤ limit → ReadsBack R es (encode es)
 unfolding encode
 encode-reads-back R L es good within = layout-reads-back R L es _ _ (packed-layout es) good (omega (arith, length-layout es _ _ (packed-layout es), packed-lengths es))
+
+-- the entries read back from a packed form of any length that 8 bytes can say
+pub encode-entries : (R : IdRules) → Lawful R → (es : List Entry) → Writable R es → packedLength es < 256 ^ 8 → entries R (encode es) ≡ es
+unfolding encode
+encode-entries R L es good within = layout-entries es _ _ (packed-layout es) R L good (omega (arith, length-layout es _ _ (packed-layout es), packed-lengths es))
+
+-- one number for each of some entries, none above what an entry can add at most
+pub total-bound : (f : Entry → ℕ) (l : List Entry) → ((i : ℕ) → i < length l → f (getD l i noEntry) ≤ 1073742104) → total f l ≤ 1073742104 * length l
+unfolding total
+total-bound f [] h = omega arith
+total-bound f (e ∷ l) h = omega (arith, h 0 (omega arith), total-bound f l (λ i k. h (suc i) (omega arith)))

@@ -1,5 +1,5 @@
 -- What is laid out is accepted, and reads back as the entries given. Assumes nothing.
-use Prim.Native.Nat.{ℕ, _+_, _<_, _≤_}
+use Prim.Native.Nat.{ℕ, _+_, _^_, _<_, _≤_}
 use native.Mathlib.Omega.{arith}
 use mathlib.Core.Path.{_≡_, refl, ap, ap₂, _∙_}
 use mathlib.Core.Bool.{Bool, false}
@@ -44,7 +44,7 @@ module _ (es : List Entry) (rs : List Row) (body : List ℕ) (lay : Layout es rs
   pub length-layout : length (bundle rs body) ≡ packedEnd es + length body
   length-layout = omega (arith, length-bundle rs body, table-end)
 
-  module _ (R : IdRules) (L : Lawful R) (good : Writable R es) (within : length (bundle rs body) ≤ limit) where
+  module _ (R : IdRules) (L : Lawful R) (good : Writable R es) (within : length (bundle rs body) < 256 ^ 8) where
     abbrev whole : List ℕ
     whole = bundle rs body
 
@@ -106,9 +106,9 @@ module _ (es : List Entry) (rs : List Row) (body : List ℕ) (lay : Layout es rs
         let e : magic ++ bytesOf 8 (length rs) ++ table rs ++ body ≡ magic ++ (bytesOf 8 (length rs) ++ (table rs ++ body)) = simp append-assoc in
         ap (take 24) e ∙ take-at magic (bytesOf 8 (length rs) ++ (table rs ++ body)) 24 length-magic
 
-    frame : Framed whole
-    frame = record {
-      fits = within;
+    frame : length whole ≤ limit → Framed whole
+    frame short = record {
+      fits = short;
       magical = magical;
       long = omega (arith, length-bundle rs body);
       few = omega (arith, counted, few);
@@ -126,10 +126,10 @@ module _ (es : List Entry) (rs : List Row) (body : List ℕ) (lay : Layout es rs
         ∙ apart (e j) (e i) (at-member es noEntry j (index j (below j hj))) (at-member es noEntry i (index i (below i h)))
         (distinct-at (λ f. f .id) es noEntry (good .distinct) j i l (index i (below i h)))
 
-    pub layout-accepted : Accepted R whole
+    pub layout-accepted : length whole ≤ limit → Accepted R whole
     unfolding badId meanSame mix
-    layout-accepted = record {
-      frame = frame;
+    layout-accepted short = record {
+      frame = frame short;
       sense = record {
         meant = record {
           named = λ i h. ap (λ x. empty (R .canon (x .id))) (read i h) ∙ ap empty (id-is i (below i h)) ∙ good .some (e i) (at-member es noEntry i (index i (below i h)));
@@ -157,15 +157,16 @@ module _ (es : List Entry) (rs : List Row) (body : List ℕ) (lay : Layout es rs
         let b : imageOf whole (row whole i) ≡ e i .image = ap (imageOf whole) (read i h) ∙ image-back i (index i (below i h)) in
         λ j. record { id = a j; image = b j }
 
-    layout-entries : entries R whole ≡ es
+    pub layout-entries : entries R whole ≡ es
     layout-entries =
         let n : length (entries R whole) ≡ count whole = entries-length R whole (count whole) (row whole) in
         ext-getD noEntry (entries R whole) es (n ∙ layout-count)
         (λ i h. entries-at R whole (count whole) (row whole) i (omega arith) ∙ entry-back i (omega arith))
 
 pub layout-reads-back : (R : IdRules) → Lawful R → LayoutReadsBack R
-layout-reads-back R L es rs body lay good within =
-    let a = layout-accepted es rs body lay R L good within in
+layout-reads-back R L es rs body lay good short =
+    let within : length (bundle rs body) < 256 ^ 8 = omega (arith, short) in
+    let a = layout-accepted es rs body lay R L good within short in
     record {
       accepted = a;
       checked = check-exact R (bundle rs body) .counted a ∙ ap (λ n. record { number = 0; place = 0; count = n }) (layout-count es rs body lay R L good within);

@@ -1,5 +1,5 @@
 -- Demand 3: normal forms are the same bytes exactly where bundles hold the same entries, and they are kept by the check, the pick and a second
--- normalising. Statements only; `proofs/Demand` proves `Demand3` of every two accepted bundles whose normal forms are within the limit.
+-- normalising. Statements only; `proofs/Demand` proves `Demand3`.
 use Prim.Native.Nat.{ℕ, _<_, _≤_}
 use mathlib.Core.Path.{_≡_}
 use mathlib.Core.Logic.{_↔_}
@@ -74,15 +74,8 @@ module _ (R : IdRules) where
 
 -- ---- the demand, of the project's own rules of entry IDs
 
-pub record Demand3 (a b device : List ℕ) : Type 0 where
-  pub same-bytes : (normal idRules a ≡ normal idRules b) ↔ SameEntries a b
-  pub left : Kept idRules a device
-  pub right : Kept idRules b device
-
--- for any two accepted bundles "within the size limit", and any bytes as a device name
-abbrev pub EveryDemand3 : Type 0
-EveryDemand3 =
-    (a b device : List ℕ)
-    → check idRules a .number ≡ 0 → check idRules b .number ≡ 0
-    → length (normal idRules a) ≤ limit → length (normal idRules b) ≤ limit
-    → Demand3 a b device
+pub record Demand3 : Type 0 where
+  -- of any two accepted bundles, also where a normal form is above the limit
+  pub same-bytes : (a b : List ℕ) → check idRules a .number ≡ 0 → check idRules b .number ≡ 0 → (normal idRules a ≡ normal idRules b) ↔ SameEntries a b
+  -- "within the size limit", and any bytes as a device name
+  pub kept : (s device : List ℕ) → check idRules s .number ≡ 0 → length (normal idRules s) ≤ limit → Kept idRules s device
