@@ -12,3 +12,4 @@ pub mod SameLaws
 pub mod NormalLaws
 pub mod WriterLaws
 pub mod Demand
+pub mod Demand2

@@ -9,3 +9,4 @@ pub mod Layout
 pub mod Normal
 pub mod Writer
 pub mod Demand
+pub mod Demand2
