@@ -1,1 +1,2 @@
 pub mod NextLaws
+pub mod Asked
