@@ -139,17 +139,3 @@ pub fn relation_of(a: &[u8], b: &[u8]) -> Relation
     let mixed = meet(a, b, n) != 0;
     Relation { same: false, mixed }
 }
-
-// Whether two entries in canonical form have the same meaning.
-pub fn same_meaning(a: &[u8], b: &[u8]) -> bool
-    ensures { λ r. ⌜ r ≡ sameText (now (a .entry)) (now (b .entry)) ⌝ }
-{
-    relation_of(a, b).same
-}
-
-// Whether two entries in canonical form have equal heads and other feature names.
-pub fn mixed(a: &[u8], b: &[u8]) -> bool
-    ensures { λ r. ⌜ r ≡ mixedText (now (a .entry)) (now (b .entry)) ⌝ }
-{
-    relation_of(a, b).mixed
-}

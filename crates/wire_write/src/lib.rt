@@ -3,30 +3,6 @@ ghost use mathlib.Core.Path.{_≡_};
 ghost use Rattle.wire.specs.Word.{bytesOf};
 ghost use Rattle.wire.specs.Bytes.{overwrite};
 
-// Writes the 2 low bytes of `v` to `out` from `at` on, where they fit.
-pub fn put_word2(out: &mut [u8], at: usize, v: u64)
-    ensures { λ _. ⌜ now (out .exit) ≡ overwrite (now (out .entry)) at (bytesOf 2 v) ⌝ }
-{
-    let b = [(v % 256) as u8, (v / 256 % 256) as u8];
-    wire_copy::copy_at(out, at, &b);
-}
-
-// Writes the 4 low bytes of `v` to `out` from `at` on, where they fit.
-pub fn put_word4(out: &mut [u8], at: usize, v: u64)
-    ensures { λ _. ⌜ now (out .exit) ≡ overwrite (now (out .entry)) at (bytesOf 4 v) ⌝ }
-{
-    let v1 = v / 256;
-    let v2 = v1 / 256;
-    let v3 = v2 / 256;
-    let b = [
-        (v % 256) as u8,
-        (v1 % 256) as u8,
-        (v2 % 256) as u8,
-        (v3 % 256) as u8,
-    ];
-    wire_copy::copy_at(out, at, &b);
-}
-
 // Writes the 8 bytes of `v` to `out` from `at` on, where they fit.
 pub fn put_word8(out: &mut [u8], at: usize, v: u64)
     ensures { λ _. ⌜ now (out .exit) ≡ overwrite (now (out .entry)) at (bytesOf 8 v) ⌝ }
