@@ -7,6 +7,7 @@ use lib.ListN.{length, getD}
 use borrow.Author.Tests.{le-ltb}
 use Rattle.wire.specs.Limit.{limit}
 use Rattle.wire.specs.Order.{sortBy}
+use Rattle.wire.proofs.ListLaws.{total-most}
 use Rattle.wire.specs.Stop.{Stop, go, _⨾_}
 use Rattle.wire.proofs.StopLaws.{⨾-both, stopIf-go}
 use Rattle.wire.proofs.SortLaws.{sort-in, sort-out, sort-length, sort-total, sort-distinct, sort-again, sort-same, same-sort}
@@ -21,7 +22,7 @@ use Rattle.bundle.specs.Normal.{byId, roomStop, answer, output, normal, 
 use Rattle.bundle.specs.Demand.{SamePick, Writes, Kept}
 use Rattle.bundle.proofs.AcceptLaws.{accepted-go}
 use Rattle.bundle.proofs.EntryLaws.{length-imageOf, entries-length, entries-at, entries-writable}
-use Rattle.bundle.proofs.PackLaws.{length-encode, encode-reads-back, encode-entries, total-bound}
+use Rattle.bundle.proofs.PackLaws.{length-encode, encode-reads-back, encode-entries}
 use Rattle.bundle.proofs.SameLaws.{Holds, pickStop-entries, pickedImage-entries}
 use Rattle.bundle.proofs.Theorems.{check-exact}
 
@@ -121,8 +122,8 @@ module _ (R : IdRules) (L : Lawful R) where
   same-normal a b p q h g =
       ap encode (sort-same byId (entries R a) (entries R b) (accepted-writable a p .distinct) (accepted-writable b q .distinct) h g)
 
-  -- above the limit too: 64 entries of at most 24, 256 and a container's bytes are less than 8 bytes can say
-  entry-size : (s : List ℕ) → Accepted R s → (i : ℕ) → i < length (entries R s) → entrySize (getD (entries R s) i noEntry) ≤ 1073742104
+  -- the normal form reads back above the limit too: 64 entries, each of at most 24, 256 and a container's bytes, are less than 8 bytes can say
+  entry-size : (s : List ℕ) → Accepted R s → (i : ℕ) → i < length (entries R s) → entrySize (getD (entries R s) i noEntry) ≤ 280 + limit
   unfolding entryOf
   entry-size s a i h =
       let l : i < count s = omega (arith, entries-length R s (count s) (row s)) in
@@ -133,7 +134,7 @@ module _ (R : IdRules) (L : Lawful R) where
   normal-size : (s : List ℕ) → Accepted R s → packedLength (sortBy byId (entries R s)) < 256 ^ 8
   unfolding packedLength
   normal-size s a =
-      omega (arith, sort-packedLength (entries R s), total-bound entrySize (entries R s) (entry-size s a), entries-length R s (count s) (row s), a .frame .few)
+      omega (arith, sort-packedLength (entries R s), total-most entrySize noEntry (280 + limit) (entries R s) (entry-size s a), entries-length R s (count s) (row s), a .frame .few)
 
   normal-entries : (s : List ℕ) → Accepted R s → entries R (normal R s) ≡ sortBy byId (entries R s)
   unfolding normal

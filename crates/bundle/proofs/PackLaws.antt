@@ -1,5 +1,5 @@
 -- The packed form is a layout, and its length. Assumes nothing.
-use Prim.Native.Nat.{ℕ, zero, suc, _+_, _*_, _^_, _<_, _≤_}
+use Prim.Native.Nat.{ℕ, zero, suc, _+_, _^_, _<_, _≤_}
 use native.Mathlib.Omega.{arith}
 use native.Mathlib.Nat.{add-assoc}
 use mathlib.Core.Path.{_≡_, refl, ap, _∙_}
@@ -77,9 +77,3 @@ encode-reads-back R L es good within = layout-reads-back R L es _ _ (packed-layo
 pub encode-entries : (R : IdRules) → Lawful R → (es : List Entry) → Writable R es → packedLength es < 256 ^ 8 → entries R (encode es) ≡ es
 unfolding encode
 encode-entries R L es good within = layout-entries es _ _ (packed-layout es) R L good (omega (arith, length-layout es _ _ (packed-layout es), packed-lengths es))
-
--- one number for each of some entries, none above what an entry can add at most
-pub total-bound : (f : Entry → ℕ) (l : List Entry) → ((i : ℕ) → i < length l → f (getD l i noEntry) ≤ 1073742104) → total f l ≤ 1073742104 * length l
-unfolding total
-total-bound f [] h = omega arith
-total-bound f (e ∷ l) h = omega (arith, h 0 (omega arith), total-bound f l (λ i k. h (suc i) (omega arith)))

@@ -1,5 +1,5 @@
--- Demand 2 of bundles, at the project's own rules of entry IDs: what the check, its places and a pick say, and that their tests are those on what the
--- texts mean, as they are spelled. Statements only; `proofs/Demand2` proves them.
+-- Demand 2 of bundles, at the project's own rules of entry IDs: what the check, its places, a pick and the bundle writer promise, and that their tests
+-- are those on what the texts mean, as they are spelled. Statements only; `proofs/Demand2` proves `Demand2`.
 use Prim.Native.Nat.{ℕ}
 use mathlib.Core.Path.{_≡_}
 use mathlib.Core.Bool.{not}
@@ -12,7 +12,7 @@ use Rattle.entry_id.specs.Rules.{idRules}
 use Rattle.bundle.specs.Table.{Row, row}
 use Rattle.bundle.specs.Check.{badId, meanSame, mix}
 use Rattle.bundle.specs.Pick.{compatibleAt}
-use Rattle.bundle.specs.Theorems.{CheckExact, PlaceExact, PickExact, TableDecides}
+use Rattle.bundle.specs.Theorems.{CheckExact, PlaceExact, PickExact, FramedExact, TableDecides}
 use Rattle.bundle.specs.Writer.{WritesRead}
 
 -- the tests of 5, 7, 8, 9 and 10, on the texts as spelled
@@ -27,9 +27,14 @@ pub record ByMeaning : Type 0 where
   pub fits : (s device : List ℕ) (i : ℕ) → T (valid (row s i .id)) → T (valid device) → compatibleAt idRules s device i ≡ compatible (meaning (row s i .id)) (meaning device)
 
 pub record Demand2 : Type 0 where
+  -- "A container is accepted exactly when document 01's rules hold."
   pub checked : (s : List ℕ) → CheckExact idRules s
   pub places : (s : List ℕ) → PlaceExact idRules s
+  -- "A pick returns the image of the one compatible entry, or NONE exactly if there is none."
   pub picked : (s device : List ℕ) → PickExact idRules s device
+  -- "If a bundle passes 1 to 4, it and any bundle of the same length that agrees with it in every byte before its table end get the same answers"
+  pub framed : (s : List ℕ) → FramedExact s
   pub table-decides : TableDecides idRules
+  -- "What a writer writes reads back as given, in order."
   pub written : WritesRead idRules
   pub by-meaning : ByMeaning

@@ -1,6 +1,7 @@
 -- Laws of sums over lists, and of members by index. Assumes nothing.
-use Prim.Native.Nat.{ℕ, zero, suc, _+_, _<_}
+use Prim.Native.Nat.{ℕ, zero, suc, _+_, _*_, _<_, _≤_, zero-le}
 use native.Mathlib.Omega.{arith}
+use native.Mathlib.Nat.{suc-mul}
 use mathlib.Core.Path.{_≡_, refl}
 use mathlib.Core.Logic.{inl, inr}
 use mathlib.Core.List.{List, [], _∷_, _++_, List·Memᴰ, List·Memᴰ·head, List·Memᴰ·tail, List·Memᴰ·not-nil, List·Memᴰ·cases-cons}
@@ -21,6 +22,12 @@ total-same v w c d [] (y ∷ m) e h = absurd (omega arith)
 total-same v w c d (x ∷ l) [] e h = absurd (omega arith)
 total-same v w c d (x ∷ l) (y ∷ m) e h =
     omega (arith, h zero (omega arith), total-same v w c d l m (omega arith) (λ i b. h (suc i) (omega arith)))
+
+-- of a list whose elements have no number above m
+pub total-most : {A : Type 0} (v : A → ℕ) (d : A) (m : ℕ) (l : List A) → ((i : ℕ) → i < length l → v (getD l i d) ≤ m) → total v l ≤ length l * m
+unfolding total
+total-most v d m [] h = zero-le
+total-most v d m (x ∷ l) h = omega (arith, suc-mul (length l) m, h zero (omega arith), total-most v d m l (λ i b. h (suc i) (omega arith)))
 
 -- the index of a member
 pub member-at : {A : Type 0} (l : List A) (d x : A) → List·Memᴰ x l → (i : ℕ) × (i < length l) × (x ≡ getD l i d)
