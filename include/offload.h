@@ -39,6 +39,9 @@ extern "C" {
 #define OFFLOAD_ENTRIES 64                 /* most entries in a bundle */
 #define OFFLOAD_ID_LIMIT 256               /* most bytes in an entry ID or a device name */
 
+/* A function of this header: no warning where it is not used. */
+#define OFFLOAD_INLINE static inline __attribute__((unused))
+
 /* Entry IDs, and device names, which are written like them (no ending zero):
  *
  *   id        = head { ":" feature }, with at most 8 features; 1 to 256 bytes, and so is its canonical form
@@ -85,7 +88,7 @@ enum offload_number {
 };
 
 /* The name of a number: "OK", "LENGTH", .., "END"; "UNKNOWN" for any other number. */
-static inline const char *offload_name(uint64_t number) {
+OFFLOAD_INLINE const char *offload_name(uint64_t number) {
     static const char *const names[] = {
         "OK",   "LENGTH", "MAGIC", "COUNT", "TABLE", "ID",   "RANGE",   "TWICE", "MIXED", "QUERY",
         "NONE", "BIG",    "ROOM",  "HEAD",  "SPAN",  "KIND", "STRINGS", "IMAGE", "MANY",  "END",
@@ -105,7 +108,7 @@ struct offload_check_answer {
     uint64_t number, place, count;
 };
 
-static inline struct offload_check_answer offload_check(const uint8_t *bundle, size_t bundle_length) {
+OFFLOAD_INLINE struct offload_check_answer offload_check(const uint8_t *bundle, size_t bundle_length) {
     struct offload_check_answer answer = {0, 0, 0};
     answer.number = offload_check_number(bundle, bundle_length);
     if (answer.number == OFFLOAD_OK)
@@ -131,7 +134,7 @@ struct offload_entry_answer {
     uint64_t number, place, position, size, id_position, id_length;
 };
 
-static inline struct offload_entry_answer offload_entry(const uint8_t *bundle, size_t bundle_length, size_t index) {
+OFFLOAD_INLINE struct offload_entry_answer offload_entry(const uint8_t *bundle, size_t bundle_length, size_t index) {
     struct offload_entry_answer answer = {0, 0, 0, 0, 0, 0};
     answer.number = offload_entry_number(bundle, bundle_length, index);
     if (answer.number == OFFLOAD_OK) {
@@ -162,8 +165,8 @@ struct offload_pick_answer {
     uint64_t number, place, index, position, size;
 };
 
-static inline struct offload_pick_answer offload_pick(const uint8_t *bundle, size_t bundle_length,
-                                                      const uint8_t *device, size_t device_length) {
+OFFLOAD_INLINE struct offload_pick_answer offload_pick(const uint8_t *bundle, size_t bundle_length,
+                                                       const uint8_t *device, size_t device_length) {
     struct offload_pick_answer answer = {0, 0, 0, 0, 0};
     answer.number = offload_pick_number(bundle, bundle_length, device, device_length);
     if (answer.number == OFFLOAD_OK) {
@@ -196,8 +199,8 @@ struct offload_normalise_answer {
     uint64_t number, place, length;
 };
 
-static inline struct offload_normalise_answer offload_normalise(const uint8_t *bundle, size_t bundle_length,
-                                                                uint8_t *out, size_t out_length) {
+OFFLOAD_INLINE struct offload_normalise_answer offload_normalise(const uint8_t *bundle, size_t bundle_length,
+                                                                 uint8_t *out, size_t out_length) {
     struct offload_normalise_answer answer = {0, 0, 0};
     answer.length = offload_normalise_length(bundle, bundle_length, out, out_length);
     if (answer.length == 0) { /* refused: a normal form has at least 32 bytes */
