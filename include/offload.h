@@ -19,7 +19,7 @@
  * number is OFFLOAD_OK and the place is 0. One entry that breaks the rules refuses the whole bundle, for every device.
  *
  * Each call is proved to return the field of its name in the definition of its family (crates/bundle/specs), and the
- * normalise calls to leave in the whole output what the definition says. The inline functions are plain C. */
+ * normalise calls to leave in the whole output what the definition says. The inline functions are plain C, not proved. */
 #ifndef OFFLOAD_H
 #define OFFLOAD_H
 
@@ -44,7 +44,7 @@ extern "C" {
 
 /* Entry IDs, and device names, which are written like them (no ending zero):
  *
- *   id        = head { ":" feature }, with at most 8 features; 1 to 256 bytes, and so is its canonical form
+ *   id        = head { ":" feature }, with at most 8 features; the ID and its canonical form have 1 to 256 bytes
  *   head      = kind "-" arch "-" vendor "-" system [ "-" fifth | "-" environment "-" processor ]
  *   fifth     = processor, if it begins with gfx or sm_ (the environment is then empty)
  *             | environment, if it does not (there is then no processor)
