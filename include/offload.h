@@ -19,7 +19,8 @@
  * number is OFFLOAD_OK and the place is 0. One entry that breaks the rules refuses the whole bundle, for every device.
  *
  * Each call is proved to return the field of its name in the definition of its family (crates/bundle/specs), and the
- * normalise calls to leave in the whole output what the definition says. The inline functions are plain C, not proved. */
+ * normalise calls to leave in the whole output what the definition says. The inline functions are plain C and not
+ * proved. */
 #ifndef OFFLOAD_H
 #define OFFLOAD_H
 
