@@ -1,4 +1,4 @@
-/* The rules of document 01 in plain C, written to be fast: what the library's speed is held against. Not proved. */
+/* The rules of docs/RULES.md in plain C, written to be fast: what the library's speed is compared with. Not proved. */
 #ifndef BASELINE_H
 #define BASELINE_H
 

@@ -1,4 +1,5 @@
-//! The rules of document 01, written down a second time, sentence by sentence. Sums are made in 128 bits, so none wraps.
+//! The rules written a second time, sentence by sentence, from the requirements alone, which docs/RULES.md restates: words in quotation
+//! marks are theirs. Sums are made in 128 bits, so none wraps.
 
 pub mod binaries;
 pub mod binary_writer;

@@ -27,7 +27,7 @@ pub record ByMeaning : Type 0 where
   pub fits : (s device : List ℕ) (i : ℕ) → T (valid (row s i .id)) → T (valid device) → compatibleAt idRules s device i ≡ compatible (meaning (row s i .id)) (meaning device)
 
 pub record Demand2 : Type 0 where
-  -- "A container is accepted exactly when document 01's rules hold."
+  -- "A container is accepted exactly when [the] rules hold" (RULES 7.4).
   pub checked : (s : List ℕ) → CheckExact idRules s
   pub places : (s : List ℕ) → PlaceExact idRules s
   -- "A pick returns the image of the one compatible entry, or NONE exactly if there is none."

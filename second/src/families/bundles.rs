@@ -101,7 +101,7 @@ impl Family for Bundles {
         "bundles"
     }
 
-    /// The examples of document 01, and each real bundle with each device name.
+    /// The examples of RULES B, and each real bundle with each device name.
     fn run_fixed(&mut self) -> Result<u64, Difference> {
         let mut cases = bundle_cases();
         for sample in samples::BUNDLES {

@@ -1,4 +1,4 @@
-//! The examples of document 01's section "Bench pieces on each side of a line" as cases. `model/examples.rs` says what comes of them.
+//! The examples of RULES B, B.1 to B.13, as cases. `model/examples.rs` says what comes of them.
 
 use super::{binaries, bundles, Room};
 use crate::model::binary_writer::{write_binary, Content, PairParts};

@@ -1,4 +1,4 @@
-//! The examples of document 01's section "Bench pieces on each side of a line", all of them, and the slips it names.
+//! The examples of RULES B, and the mistakes of RULES C.
 
 use super::binaries::{read_all, Binary, Pair};
 use super::binary_writer::{write_binary, Content};

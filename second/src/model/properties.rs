@@ -1,4 +1,4 @@
-//! What document 01 says of the rules as a whole, tried on generated cases.
+//! What RULES 8.3, 10.6, 10.7 and 16 say of the rules as a whole, tried on generated cases.
 
 use super::binaries::read_all;
 use super::binary_writer::{write_binary, PairParts};
