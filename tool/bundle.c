@@ -63,16 +63,15 @@ enum status pick(const struct request *request) {
     return ACCEPTED;
 }
 
-/* The normal form of a bundle that lacks nothing but room, in memory of its own; null where there is not enough memory.
+/* Makes the normal form of a bundle that lacks nothing but room, in memory of its own; null where there is not enough.
  * An ID grows by two dashes at most, so the first room is enough unless images share bytes; then it is doubled. */
-static struct bytes normal_form(struct bytes bundle) {
+static uint8_t *normal_form(struct bytes bundle, size_t *length) {
     size_t room = bundle.length + 2 * OFFLOAD_ENTRIES;
     for (;; room *= 2) {
         uint8_t *out = malloc(room);
-        uint64_t length = out == NULL ? 0 : offload_normalise_length(bundle.start, bundle.length, out, room);
-        struct bytes normal = {out, (size_t)length};
-        if (out == NULL || length > 0)
-            return normal;
+        *length = out == NULL ? 0 : (size_t)offload_normalise_length(bundle.start, bundle.length, out, room);
+        if (out == NULL || *length > 0)
+            return out;
         free(out);
     }
 }
@@ -88,17 +87,21 @@ static void tell_length(const struct request *request, uint64_t length) {
     json_close(&object);
 }
 
-enum status normalise(const struct request *request) {
-    struct bytes bundle = request->files[0], normal;
-    uint8_t none[1];
-    const char *failure;
-    struct offload_normalise_answer answer = offload_normalise(bundle.start, bundle.length, none, 0);
-    if (answer.number != OFFLOAD_ROOM)
-        return refuse(request, answer.number, answer.place);
-    normal = normal_form(bundle);
-    failure = normal.start == NULL ? "Not enough memory" : file_write(request->output, normal);
+static enum status write_normal_form(const struct request *request) {
+    size_t length;
+    uint8_t *normal = normal_form(request->files[0], &length);
+    struct bytes content = {normal, length};
+    const char *failure = normal == NULL ? "Not enough memory" : file_write(request->output, content);
+    free(normal);
     if (failure != NULL)
         return cannot_write(request, request->output, failure);
-    tell_length(request, normal.length);
+    tell_length(request, length);
     return ACCEPTED;
+}
+
+enum status normalise(const struct request *request) {
+    struct bytes bundle = request->files[0];
+    uint8_t none[1];
+    struct offload_normalise_answer answer = offload_normalise(bundle.start, bundle.length, none, 0);
+    return answer.number == OFFLOAD_ROOM ? write_normal_form(request) : refuse(request, answer.number, answer.place);
 }
