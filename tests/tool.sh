@@ -73,12 +73,12 @@ all="offload [0-9]*.[0-9]*.[0-9]*: bundles of GPU images*offload check FILE*offl
 for word in help -h --help; do
   expect 0 "$all" '' $word
   expect 0 "offload list FILE [[]--json]*for each entry*$statuses" '' $word list
-  expect 0 'An entry ID *KIND-ARCH-VENDOR-SYSTEM*host, hip, hipv4 or openmp*gfx or sm_*1 to 256*' '' $word id
+  expect 0 'Entry IDs*id * 1 to 256 bytes*kind * "hip"*canonical = kind-arch-vendor-system-environment-processor*hipv4.' '' $word id
   expect 2 '' $'offload: no help about me\nTry: offload help' $word me
   expect 2 '' $'offload: unexpected word pick\nTry: offload help' $word check pick
 done
 lines=$("$offload" help id | wc -l)
-[ "$lines" -le 16 ] || fail "help id has $lines lines"
+[ "$lines" -le 17 ] || fail "help id has $lines lines"
 help() {
   local word
   expect 0 "offload $2 [[]--json]*$statuses" '' help "$1"

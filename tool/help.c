@@ -28,20 +28,22 @@ static const char statuses[] =
     "  4  no image for this device (NONE)\n";
 
 static const char id_help[] =
-    "An entry ID says what an image is for; a device name is written in the same way.\n"
+    "Entry IDs, and device names, which are written like them:\n"
     "\n"
-    "  KIND-ARCH-VENDOR-SYSTEM[-ENVIRONMENT][-PROCESSOR][:FEATURE+ or :FEATURE-]..\n"
+    "  id        = head { \":\" feature }, with at most 8 features; the ID and its canonical form have 1 to 256 bytes\n"
+    "  head      = kind \"-\" arch \"-\" vendor \"-\" system [ \"-\" fifth | \"-\" environment \"-\" processor ]\n"
+    "  fifth     = processor, if it begins with gfx or sm_ (the environment is then empty)\n"
+    "            | environment, if it does not (there is then no processor)\n"
+    "  kind      = \"host\" | \"hip\" | \"hipv4\" | \"openmp\"\n"
+    "  arch, vendor, system   = one or more of A-Z a-z 0-9 _ .\n"
+    "  environment, processor = zero or more of these; an empty processor is no processor\n"
+    "  feature   = name \"+\" (on) | name \"-\" (off), only where there is a processor\n"
+    "  name      = one or more of a-z 0-9 _, and no name twice in an ID\n"
+    "  canonical = kind-arch-vendor-system-environment-processor, then each \":\" feature in byte order of the names\n"
     "\n"
-    "  KIND         host, hip, hipv4 or openmp\n"
-    "  ARCH, VENDOR, SYSTEM, ENVIRONMENT, PROCESSOR\n"
-    "               ASCII letters, digits, _ and . ; the first three are not empty\n"
-    "  fifth field  the processor if it begins with gfx or sm_, else the environment; of six fields it is the environment\n"
-    "  FEATURE      a-z, 0-9 and _ ; + is on, - is off; each at most once, at most 8, and only after a processor\n"
-    "  length       1 to 256 bytes, in canonical form too\n"
-    "\n"
-    "The canonical form has all six fields, then the features in byte order: hip-amdgcn-amd-amdhsa--gfx906:sramecc-:xnack+\n"
-    "An entry fits a device if kind, triple (arch to environment) and processor are equal and every feature that the entry\n"
-    "states is stated by the device with the same sign. A feature that the entry leaves out may be on or off.\n";
+    "hip-amdgcn-amd-amdhsa-gfx906:xnack+:sramecc- has the canonical form hip-amdgcn-amd-amdhsa--gfx906:sramecc-:xnack+.\n"
+    "An entry fits a device when kind, triple (arch, vendor, system, environment) and processor are equal, and every feature\n"
+    "that the entry states is stated by the device with the same sign. Kinds are equal or not: clang's driver writes hipv4.\n";
 
 static void print_meaning(const char *name, const char *meaning) {
     printf("  %-*s  %s\n", NAME, name, meaning);
