@@ -98,11 +98,11 @@ expect 2 '' $'offload: unexpected word now\nTry: offload help' --version now
 holds
 
 # Bad usage names the word.
-# usage WRONG COMMAND WORD..
+# usage FAULT COMMAND WORD..
 usage() {
-  local wrong=$1 command=$2
+  local fault=$1 command=$2
   shift 2
-  expect 2 '' "offload: ${command:+$command: }$wrong"$'\n'"Try: offload help${command:+ $command}" "$@"
+  expect 2 '' "offload: ${command:+$command: }$fault"$'\n'"Try: offload help${command:+ $command}" "$@"
 }
 usage 'missing command' ''
 usage 'unknown command lits' '' lits "$cards"
@@ -202,7 +202,10 @@ expect 4 '' "$(none "${gfx}906")$left" pick "$cards" "${gfx}906" -o out
 object="{\"file\":\"$cards\",\"number\":10,\"name\":\"NONE\",\"device\":\"${gfx}906\",\"sentence\":\"$sentence\",\"advice\":\"$advice\""
 expect 4 "$object}" '' pick --json "$cards" "${gfx}906" -o new
 expect 4 "$object,\"kept\":\"out\"}" '' pick --json "$cards" "${gfx}906" -o out
+: >-
 expect 4 '' "$object}" pick --json "$cards" "${gfx}906" -o -
+expect 4 "$object,\"kept\":\"./-\"}" '' pick --json "$cards" "${gfx}906" -o ./-
+rm ./-
 
 # Refusals: number, name, the entry or the device that is named, a sentence, and what to do. Nothing is written, and what was there stays.
 # refusal FILE NUMBER-AND-NAME [WHERE [MORE]]
@@ -252,14 +255,18 @@ expect 1 "$(object id 5 ID '"place":2,"id":"hip-a",')" '' check --json id
 bundle 0 host-a-b-c $'hip-\n"\\\x80' >id
 expect 1 '' "$(refusal id '5 ID' 'entry 1 "hip-\\x0a\\x22\\x5c\\x80"')" check id
 expect 1 "$(object id 5 ID '"place":1,"id":"hip-\\u000a\\"\\\\\\\\x80",')" '' check --json id
+{ bundle 1 $'hip-\xe2\x82'; printf '\xac'; } >id
+expect 1 "$(object id 5 ID '"place":0,"id":"hip-\\\\xe2\\\\x82",')" '' check --json id
 bundle 0 host-a-b-c hip-a-b-c-gfx906:xnack+:sramecc- hip-a-b-c--gfx906:sramecc-:xnack- hip-a-b-c--gfx906:sramecc-:xnack+ >twice
 earlier='It is entry 1 "hip-a-b-c-gfx906:xnack+:sramecc-".'
 expect 1 '' "$(refusal twice '7 TWICE' 'entry 3 "hip-a-b-c--gfx906:sramecc-:xnack+"' "$earlier")" check twice
 expect 1 "$(object twice 7 TWICE '"place":3,"id":"hip-*+","earlier":1,"earlier_id":"hip-a-b-c-gfx906:xnack+:sramecc-",')" '' list twice --json
 bundle 0 hip-a-b-c-gfx906 hip-a-b-c-gfx90a:xnack+ openmp-a-b-c-gfx90a hip-a-b-c-gfx90a:sramecc+ >mixed
 expect 1 '' "$(refusal mixed '8 MIXED' 'entry 3 "hip-a-b-c-gfx90a:sramecc+"' 'It is entry 1 "hip-a-b-c-gfx90a:xnack+".')" check mixed
-bundle 0 hip-a-b-c-gfx906:xnack+ hip-a-b-c-gfx906:xnack-:sramecc+ >mixed
-expect 1 '' "$(refusal mixed '8 MIXED' 'entry 1 "*+"' 'It is entry 0 "hip-a-b-c-gfx906:xnack+".')" check mixed
+for pair in ' :xnack+' ':xnack+ ' ':xnack+ :sramecc-:xnack-' ':f+ :g+:f-' ':a+:b+ :a+'; do
+  bundle 0 "hip-a-b-c-gfx906${pair% *}" "hip-a-b-c-gfx906${pair#* }" >mixed
+  expect 1 '' "$(refusal mixed '8 MIXED' "entry 1 \"hip-a-b-c-gfx906${pair#* }\"" "It is entry 0 \"hip-a-b-c-gfx906${pair% *}\".")" check mixed
+done
 truncate -s 1073741825 long
 expect 1 '' "$(refusal long '1 LENGTH')" check long
 cp "$cards" large
