@@ -286,7 +286,7 @@ looks() {
 looks 'an empty file' '*written whole*' ''
 looks 'a compressed bundle' '*clang-offload-bundler -unbundle*without -compress.' 'CCOB\2\0'
 looks 'an archive' '*llvm-ar x FILE*' '!<arch>\n'
-looks 'an ELF file' '*objcopy*.hip_fatbin*' '\177ELF'
+looks 'an ELF file' '*objcopy*.hip_fatbin*clang-offload-bundler -unbundle -type=o*' '\177ELF'
 looks 'offload binaries' '*clang-offload-packager*' '\020\377\020\255'
 looks 'the beginning of a bundle' '*cut short*' '_'
 looks 'the beginning of a bundle' '*cut short*' __CLANG_OFFLOAD_BUNDLE_
@@ -294,7 +294,7 @@ for sign in ';' '#' //; do
   looks 'a text bundle' '*clang-offload-bundler -unbundle*' "\\n$sign __CLANG_OFFLOAD_BUNDLE____START__ host-a-b-c\\n"
 done
 for bytes in CCO '!<arch>' '\177EL' '\020\377\020' __CLANG_OFFLOAD_BUNDLE. '# __CLANG_OFFLOAD_BUNDLE____START_' ' __CLANG_OFFLOAD_BUNDLE____START__' '#' '\n'; do
-  looks '' '*clang-offload-bundler -type=o*' "$bytes"
+  looks '' '*clang-offload-bundler makes it (-type=o*' "$bytes"
 done
 expect 1 '' "$(refusal "$samples/binaries/one.bin" '2 MAGIC' '' 'It looks like offload binaries.')" check "$samples/binaries/one.bin"
 expect 1 '' "$(refusal "$samples/images/gfx906.o" '2 MAGIC' '' 'It looks like an ELF file.')" check "$samples/images/gfx906.o"

@@ -23,9 +23,9 @@ enum output { NO_OUTPUT, MAY_HAVE_OUTPUT, NEEDS_OUTPUT };
 
 struct command {
     const char *name;
-    const char *other_name;               /* or null */
-    const char *operands[OPERANDS + 1];   /* what the help calls them; the last is null */
-    int files;                            /* how many of them are files, which come first */
+    const char *other_name;             /* or null */
+    const char *operands[OPERANDS + 1]; /* what the help calls them; the last is null */
+    int files;                          /* how many of them are files, which come first */
     enum output output;
     enum status (*run)(const struct request *request);
     const char *summary; /* one line */

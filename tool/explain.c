@@ -80,18 +80,18 @@ static void print_reason(FILE *out, const struct reason *reason) {
     print_value(out, reason->device, reason->rank < FIELDS ? "(none)" : "(not stated)");
 }
 
-static void print_line(FILE *out, size_t index, const struct entry *entry, const struct reason *reason, int width) {
+static void print_line(FILE *out, const struct entries *entries, size_t index, const struct reason *reason) {
     fprintf(out, "%5zu  ", index);
-    print_id(out, canonical_bytes(&entry->id), width);
+    print_id(out, canonical_bytes(&entries->list[index].id), longest_id(entries));
     fputs("  ", out);
     print_reason(out, reason);
     putc('\n', out);
 }
 
-static void put_line(FILE *out, size_t index, const struct entry *entry, const struct reason *reason) {
+static void put_line(FILE *out, const struct entries *entries, size_t index, const struct reason *reason) {
     struct json object = json_open(out);
     json_number(&object, "index", index);
-    json_bytes(&object, "id", canonical_bytes(&entry->id));
+    json_bytes(&object, "id", canonical_bytes(&entries->list[index].id));
     json_truth(&object, "fits", reason->rank == FITS);
     if (reason->rank != FITS) {
         json_text(&object, "reason", names[reason->rank]);
@@ -106,10 +106,8 @@ static void put_line(FILE *out, size_t index, const struct entry *entry, const s
 static void tell_rank(const struct request *request, const struct entries *entries, const struct reason *reasons, int rank) {
     size_t i;
     for (i = 0; i < entries->count; i++)
-        if (reasons[i].rank == rank && request->json)
-            put_line(request->answer, i, &entries->list[i], &reasons[i]);
-        else if (reasons[i].rank == rank)
-            print_line(request->answer, i, &entries->list[i], &reasons[i], longest_id(entries));
+        if (reasons[i].rank == rank)
+            (request->json ? put_line : print_line)(request->answer, entries, i, &reasons[i]);
 }
 
 static void tell(const struct request *request, const struct entries *entries, const struct reason *reasons) {
@@ -120,6 +118,7 @@ static void tell(const struct request *request, const struct entries *entries, c
         tell_rank(request, entries, reasons, rank);
 }
 
+/* The device name keeps the rules. */
 static void explain_entries(const struct request *request, struct bytes device) {
     struct canonical name;
     struct parts parts;

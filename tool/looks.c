@@ -3,9 +3,7 @@
 #include "table.h"
 #include "text.h"
 
-#include <string.h>
-
-static const struct looks unknown = {NULL, "Give a binary bundle, as clang-offload-bundler -type=o, bc, gch or ast makes it."};
+static const struct looks unknown = {NULL, "Give a binary bundle, as clang-offload-bundler makes it (-type=o, bc, gch or ast)."};
 
 static const struct looks empty = {"an empty file", "Was it written whole? Copy it or make it again."};
 
@@ -22,28 +20,26 @@ static const struct {
     {"CCOB", {"a compressed bundle",
               "clang-offload-bundler -unbundle decompresses it and takes it apart: bundle the parts again without -compress."}},
     {"!<arch>\n", {"an archive", "Take its members out (llvm-ar x FILE) and give those that are bundles."}},
-    {"\x7f" "ELF", {"an ELF file", "If a program holds the bundle, take it out: objcopy -O binary -j .hip_fatbin FILE OUT."}},
+    {"\x7f" "ELF", {"an ELF file", "A bundle inside a program: objcopy -O binary -j .hip_fatbin FILE OUT takes it out. "
+                                     "An object with parts for several devices: clang-offload-bundler -unbundle -type=o takes it apart."}},
     {"\x10\xff\x10\xad", {"offload binaries", "Only bundles are read here: clang-offload-packager takes images out of offload binaries."}},
 };
 
-static int begins_with(struct bytes file, const char *start) {
-    struct bytes wanted = text_bytes(start), first = {file.start, wanted.length};
-    return file.length >= wanted.length && same_bytes(first, wanted);
+/* Takes these first bytes off the bytes; 0, and nothing is taken, where others stand there. */
+static int take(struct bytes *bytes, const char *start) {
+    struct bytes wanted = text_bytes(start), first = {bytes->start, wanted.length};
+    if (bytes->length < wanted.length || !same_bytes(first, wanted))
+        return 0;
+    bytes->start += wanted.length;
+    bytes->length -= wanted.length;
+    return 1;
 }
 
-/* Whether the file begins with a comment (after an empty line, as clang-offload-bundler writes it) that marks a part of a text bundle. */
+/* Whether the file begins with a comment that marks a part of a text bundle; clang-offload-bundler writes an empty line before it. */
 static int is_text_bundle(struct bytes file) {
-    static const char *const comments[] = {"; ", "# ", "// "};
-    size_t i;
-    for (; file.length > 0 && (*file.start == '\r' || *file.start == '\n'); file.length--)
-        file.start++;
-    for (i = 0; i < sizeof comments / sizeof *comments; i++) {
-        size_t sign = strlen(comments[i]);
-        struct bytes rest = {file.start + sign, file.length - sign};
-        if (begins_with(file, comments[i]) && begins_with(rest, BUNDLE_MAGIC "__START__"))
-            return 1;
-    }
-    return 0;
+    while (take(&file, "\n") || take(&file, "\r"))
+        ;
+    return (take(&file, "; ") || take(&file, "# ") || take(&file, "// ")) && take(&file, BUNDLE_MAGIC "__START__");
 }
 
 static int is_beginning(struct bytes file) {
@@ -56,7 +52,7 @@ struct looks looks_of(struct bytes file) {
     if (file.length == 0)
         return empty;
     for (i = 0; i < sizeof known / sizeof *known; i++)
-        if (begins_with(file, known[i].start))
+        if (take(&file, known[i].start))
             return known[i].looks;
     return is_beginning(file) ? beginning : is_text_bundle(file) ? text_bundle : unknown;
 }

@@ -32,10 +32,12 @@ static int take_row(struct bytes *rest, struct row *row) {
 }
 
 int read_row(struct bytes bundle, uint64_t index, struct row *row) {
-    struct bytes rest = {bundle.start + TABLE_AT, bundle.length - TABLE_AT};
+    struct bytes rest = bundle;
     uint64_t i;
     if (bundle.length < TABLE_AT)
         return 0;
+    rest.start += TABLE_AT;
+    rest.length -= TABLE_AT;
     for (i = 0; i < index; i++)
         if (!take_row(&rest, row))
             return 0;
