@@ -62,7 +62,8 @@ show pick "$bundle" hip-amdgcn-amd-amdhsa--gfx1030 --json
 "$offload" normalise "$bundle" -o "$work/normal" >"$work/answer"
 "$offload" normalise "$work/normal" -o - 2>>"$work/answer" | cmp - "$work/normal"
 echo
-echo "The normal form (entries sorted, images packed, so that equal contents are equal files): $("$offload" check "$work/normal"), and it is its own normal form."
+echo "The normal form (entries sorted, images packed, so that equal contents are equal files):"
+echo "$("$offload" check "$work/normal"), and it is its own normal form."
 
 cat <<TEXT
 

@@ -293,7 +293,8 @@ looks 'the beginning of a bundle' '*cut short*' __CLANG_OFFLOAD_BUNDLE_
 for sign in ';' '#' //; do
   looks 'a text bundle' '*clang-offload-bundler -unbundle*' "\\n$sign __CLANG_OFFLOAD_BUNDLE____START__ host-a-b-c\\n"
 done
-for bytes in CCO '!<arch>' '\177EL' '\020\377\020' __CLANG_OFFLOAD_BUNDLE. '# __CLANG_OFFLOAD_BUNDLE____START_' ' __CLANG_OFFLOAD_BUNDLE____START__' '#' '\n'; do
+for bytes in CCO '!<arch>' '\177EL' '\020\377\020' __CLANG_OFFLOAD_BUNDLE. '# __CLANG_OFFLOAD_BUNDLE____START_' \
+  ' __CLANG_OFFLOAD_BUNDLE____START__' '#' '\n'; do
   looks '' '*clang-offload-bundler makes it (-type=o*' "$bytes"
 done
 expect 1 '' "$(refusal "$samples/binaries/one.bin" '2 MAGIC' '' 'It looks like offload binaries.')" check "$samples/binaries/one.bin"

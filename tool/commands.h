@@ -16,7 +16,7 @@ struct request {
     struct bytes files[OPERANDS];
     const char *output; /* the path of the output, or null */
     int json;           /* whether to answer in JSON */
-    FILE *answer;       /* where the answer goes: standard output, or standard error where that gets the output itself */
+    FILE *answer;       /* standard output; standard error where the output goes to standard output */
 };
 
 enum output { NO_OUTPUT, MAY_HAVE_OUTPUT, NEEDS_OUTPUT };

@@ -13,7 +13,9 @@ struct refusal {
     enum names names;
     const char *sentence; /* what it means */
     const char *advice;   /* what to do; null where it depends on the file */
-    int (*concerns)(struct row earlier, struct row row); /* whether an earlier entry is a reason; null where none can be */
+
+    /* Whether an earlier entry is the reason; null where none can be. */
+    int (*concerns)(struct row earlier, struct row row);
 };
 
 struct refusal refusal_of(uint64_t number);
