@@ -22,7 +22,7 @@ ends() {
     (ulimit -St 10 && exec "${@//FILE/$file}") >"$out/text" 2>&1 </dev/null
     status=$?
     case $status in
-      0) answered=$((answered + 1)) ;;
+      0 | 4) answered=$((answered + 1)) ;;
       152) hung=$((hung + 1)) ;;
       12[5-9] | 1[3-9]? | 2??) crashed=$((crashed + 1)) ;;
       *) refused=$((refused + 1)) ;;

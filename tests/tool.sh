@@ -3,7 +3,8 @@
 set -u
 export LC_ALL=C
 offload=$(realpath "$1")
-samples=$(realpath "$(dirname "$0")/../samples")
+top=$(realpath "$(dirname "$0")/..")
+samples=$top/samples
 cards=$samples/bundles/three-cards.bundle
 fields=$samples/bundles/five-fields.bundle
 folder=$(mktemp -d)
@@ -79,6 +80,14 @@ for word in help -h --help; do
 done
 lines=$("$offload" help id | wc -l)
 [ "$lines" -le 17 ] || fail "help id has $lines lines"
+# The grammar of IDs stands in three places, word for word: the header, RULES and help id.
+grammar='/id        = /,/canonical = /'
+sed -n "$grammar{s/^ \\*   //;p}" "$top/include/offload.h" >../header
+sed -n "$grammar p" "$top/docs/RULES.md" >../rules
+"$offload" help id | sed -n "$grammar{s/^  //;p}" >../help
+same ../rules ../header
+same ../help ../header
+[ "$(wc -l <../header)" = 10 ] || fail 'the grammar of IDs in the header'
 help() {
   local word
   expect 0 "offload $2 [[]--json]*$statuses" '' help "$1"
