@@ -4,8 +4,8 @@
 set -euo pipefail
 cd "$(dirname "$0")/.."
 mkdir -p target
-exec 9>target/lock
-flock 9 # two of `rt` would write the same files
+exec 9>target/lock # two of `rt` would write the same files
+flock -n 9 || { echo 'Waiting for another proof in this folder'; flock 9; }
 mapfile -t crates < <(scripts/crates.sh "$@")
 log=target/${1-crates}.log
 
@@ -17,4 +17,7 @@ prove() {
 }
 
 echo "Proving ${1-everything}, ${#crates[@]} crates: some minutes the first time (all that is said: $log)"
-(prove "$@") 2>&1 </dev/null | tee "$log" | scripts/progress.sh "${#crates[@]}" || { cat "$log"; exit 1; }
+set -m # a process group, to be ended whole: the proofs that `rt` runs side by side take no interrupt
+{ (prove "$@") 2>&1 </dev/null | tee "$log" | scripts/progress.sh "${#crates[@]}"; } &
+trap 'kill -- "-$!"; exit 130' HUP INT TERM
+wait $! || { cat "$log"; exit 1; }

@@ -8,7 +8,7 @@
 set -uo pipefail
 cd "$(dirname "$0")/.." || exit 2
 
-parts=(format rt-ci second-test gate-test selftest library compare build-test calls stack example tool-test install-test damage)
+parts=(format rt-ci second-test gate-test selftest library compare calls stack example tool-test install-test build-test damage)
 kept=$(mktemp -d) || exit 2 # `rt ci` removes target/
 crates=$(scripts/crates.sh | wc -l)
 edits=$(find crates -path '*/must-fail/*.edit' | wc -l)
@@ -44,8 +44,8 @@ proved() {
 
 on_the_library() {
   proved offload && proved harness && part library nice -n 5 make harness tool || return
-  make_parts compare build-test &
-  make_parts calls stack example tool-test install-test
+  make_parts compare &
+  make_parts calls stack example tool-test install-test build-test
   part damage nice -n 5 make damage DAMAGED=500 LLVM=
   wait
 }
