@@ -68,7 +68,8 @@ expect 1 '8 passed, 9 failed' 'make harness'
 # Something that the gate needs is missing: nothing runs.
 expect 2 '0 passed, 14 failed' 'make tools'
 
-# A gate that is ended says so, and ends what it started.
+# A gate that is ended says so, and ends what it started (a process that nobody waited for is a zombie).
+ended() { [[ ! -e /proc/$1 || $(cut -d ' ' -f 3 "/proc/$1/stat") == Z ]]; }
 BREAK=slow PATH=$folder/programs:$PATH tests/gate.sh >said 2>&1 &
 gate=$!
 until [[ -s started ]]; do sleep 0.1; done
@@ -76,7 +77,11 @@ kill -TERM $gate
 status=0
 wait $gate || status=$?
 [[ $status == 143 && $(tail -n 1 said) =~ ^[0-9]+\ passed,\ [1-9][0-9]*\ failed$ ]] || { echo "wrong: ended, status $status"; cat said; wrong=1; }
-! kill -0 "$(<started)" 2>said || { echo 'wrong: what the gate started goes on'; wrong=1; }
+for _ in {1..50}; do
+  ended "$(<started)" && break
+  sleep 0.1
+done
+ended "$(<started)" || { echo 'wrong: what the gate started goes on'; wrong=1; }
 
 [[ $wrong == 0 ]] && echo "gate: $((tried + 1)) ends as expected"
 exit $wrong
