@@ -23,7 +23,7 @@ LLVM := llvm
 
 HEADER := include/offload.h
 TOOL := target/offload
-VERSION := $(shell sed -n 's/^\#define OFFLOAD_VERSION "\(.*\)"/\1/p' $(HEADER))
+VERSION := $(shell sed -n 's/^\#define OFFLOAD_VERSION "\([0-9.]*\)".*/\1/p' $(HEADER))
 # Until the header has it.
 ifeq ($(VERSION),)
 VERSION := 0.1.0
@@ -35,40 +35,60 @@ BINARIES := target/staticlib/liboffload_binaries_bench.a
 CARGO := cargo --quiet
 SECOND := --offline --manifest-path second/Cargo.toml
 
-.PHONY: help demo test tool library prove install uninstall clean bench damage calls stack compare second-test tool-test example install-test gate-test \
-  build-test harness tools
+.PHONY: demo test install uninstall clean help tool library harness prove tools
+.PHONY: calls stack compare second-test tool-test example install-test build-test gate-test damage bench
 
-##
+## For use
 ##   make               the tool, and the library that it needs
+
 ##   make demo          what the tool does with a real bundle
-##   make test          the gate: every proof, every test; the last line is the verdict
+demo: $(TOOL)
+	@examples/demo.sh $(TOOL)
+
+##   make test          the gate: every proof and every test; the last line is the verdict
+test:
+	@tests/gate.sh
+
 ##   make install       header, library, tool, manual page, and what pkg-config and CMake need, below PREFIX (/usr/local) of DESTDIR
+install: $(TOOL)
+	@PREFIX=$(call quoted,$(PREFIX)) DESTDIR=$(call quoted,$(DESTDIR)) scripts/install.sh install $(VERSION)
+
 ##   make uninstall     removes what `make install` put there
+uninstall:
+	@PREFIX=$(call quoted,$(PREFIX)) DESTDIR=$(call quoted,$(DESTDIR)) scripts/install.sh uninstall $(VERSION)
+
 ##   make clean         removes all that was made here
-##
-## Parts
+clean:
+	rm -rf target second/target bench/target
+
+##   make help          these lines
 help:
 	@sed -n 's/^##\( \|$$\)//p' Makefile
 
-##   make library       target/staticlib/liboffload.a, for C and C++ over include/offload.h
+##
+## Parts
 ##   make tool          target/offload
-##   make prove         the proofs alone
-library: $(LIBRARY)
 tool: $(TOOL)
+
+##   make library       target/staticlib/liboffload.a, for C and C++ over include/offload.h
+library: $(LIBRARY)
+
+##   make harness       the reader and the writers as C calls, which the header has not: for the comparison
+harness: $(HARNESS)
+
+##   make prove         the proofs alone
 prove:
 	@scripts/need.sh rt
 	@scripts/prove.sh
 
-demo: $(TOOL)
-	@examples/demo.sh $(TOOL)
-
-test:
-	@tests/gate.sh
+##   make tools         installs, as root, what the tests need beside the Rattle kit; otherwise says what is missing
+tools:
+	@scripts/need.sh rt $(firstword $(CC)) $(firstword $(CXX)) cargo cmake pkg-config
 
 ##
 ## Tests, each a part of the gate
 ##   make calls         header and library, from C99 and from C++
-calls: target/calls-c target/calls-cpp
+calls: tools target/calls-c target/calls-cpp
 	target/calls-c
 	target/calls-cpp
 
@@ -113,30 +133,13 @@ damage: $(TOOL) target/make-damage
 	timeout 1800 tests/damage.sh $(TOOL) target/damage $(LLVM)
 
 ##
-## For development
+## Speed
 ##   make bench         speed beside that of the second program, plain C, memcpy, LLVM's tools and, with llvm-19-dev, LLVM's library
 bench: tools $(TOOL) $(BINARIES)
 	$(CARGO) run --release --offline --manifest-path bench/Cargo.toml -- $(TOOL) target/bench | tee target/bench.md
 
-##   make harness       the reader and the writers as C calls, which the header has not: for the comparison
-harness: $(HARNESS)
-
-##   make tools         installs what the gate needs beside the Rattle kit, as root; otherwise says what is missing
-tools:
-	@scripts/need.sh rt $(firstword $(CC)) $(firstword $(CXX)) cargo cmake pkg-config
-
 ##
 ## Settings, as in `make tool CC=clang`: CC CXX CPPFLAGS CFLAGS CXXFLAGS LDFLAGS LDLIBS WARNINGS PREFIX DESTDIR
-##
-
-install: $(TOOL)
-	@PREFIX=$(call quoted,$(PREFIX)) DESTDIR=$(call quoted,$(DESTDIR)) scripts/install.sh install $(VERSION)
-
-uninstall:
-	@PREFIX=$(call quoted,$(PREFIX)) DESTDIR=$(call quoted,$(DESTDIR)) scripts/install.sh uninstall $(VERSION)
-
-clean:
-	rm -rf target second/target bench/target
 
 # One word of the shell, whatever it holds.
 quoted = '$(subst ','\'',$(1))'

@@ -5,6 +5,7 @@ set -euo pipefail
 cd "$(dirname "$0")/.."
 folder=$(mktemp -d)
 trap 'rm -rf "$folder"' EXIT
+trap 'echo "wrong: tests/install.sh, line $LINENO"' ERR
 prefix="$folder/a station's files"
 
 files() { (cd "$1" && find . -type f | sort); }
