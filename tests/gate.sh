@@ -75,7 +75,7 @@ add_up() {
 finish() {
   local status=$? group name
   trap '' HUP INT TERM
-  for group in $(jobs -p); do kill -- "-$group"; done
+  for group in $(jobs -pr); do kill -- "-$group"; done
   wait
   for name in "${parts[@]}"; do
     if [[ -e $kept/$name.status ]]; then add_up "$name"; else unfinished+=("$name"); fi
