@@ -2,7 +2,7 @@
 # Builds in a folder with a space in its name, without .git: once, and again only what a change calls for. What is missing is said before anything is
 # tried: tests/build.sh. A program of this test stands for `rt`, and takes the libraries from target/staticlib.
 set -euo pipefail
-unset MAKEFLAGS # of the `make` that runs this
+unset MAKEFLAGS MAKELEVEL # of the `make` that runs this
 cd "$(dirname "$0")/.."
 folder=$(mktemp -d)
 trap 'rm -rf "$folder"' EXIT

@@ -6,7 +6,7 @@
 # library, once `rt ci` has proved that. These give way to `rt ci`, and fill the time in which it waits for the last of a group.
 # shellcheck disable=SC2317 # what a trap calls
 set -uo pipefail
-unset MAKEFLAGS # of the `make` that runs this
+unset MAKEFLAGS MAKELEVEL # of the `make` that runs this
 cd "$(dirname "$0")/.." || exit 2
 
 parts=(format rt-ci second-test gate-test selftest library compare calls stack example tool-test install-test build-test damage)

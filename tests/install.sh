@@ -2,7 +2,7 @@
 # Installs to a folder whose name must be quoted, builds and runs the example over what is there, found by pkg-config and by CMake, and removes it
 # again: tests/install.sh
 set -euo pipefail
-unset MAKEFLAGS # of the `make` that runs this
+unset MAKEFLAGS MAKELEVEL # of the `make` that runs this
 cd "$(dirname "$0")/.."
 folder=$(mktemp -d)
 trap 'rm -rf "$folder"' EXIT
