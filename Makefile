@@ -24,11 +24,6 @@ LLVM := llvm
 HEADER := include/offload.h
 TOOL := target/offload
 VERSION := $(shell sed -n 's/^\#define OFFLOAD_VERSION "\([0-9.]*\)".*/\1/p' $(HEADER))
-# Until the header has it.
-ifeq ($(VERSION),)
-VERSION := 0.1.0
-$(TOOL): C99 += -DOFFLOAD_VERSION='"$(VERSION)"'
-endif
 LIBRARY := target/staticlib/liboffload.a
 HARNESS := target/staticlib/libharness.a
 BINARIES := target/staticlib/liboffload_binaries_bench.a
@@ -94,7 +89,7 @@ calls: tools target/calls-c target/calls-cpp
 
 ##   make stack         the stack that each call takes
 stack: target/stack
-	target/stack samples/bundles/three-cards.bundle
+	target/stack
 
 ##   make compare       the library against the second program: the same rules, written a second time
 compare: tools $(LIBRARY) $(HARNESS)
@@ -107,7 +102,7 @@ second-test: tools
 ##   make tool-test     the tool, used as a person would
 tool-test: $(TOOL)
 	tests/tool.sh $(TOOL)
-	[ ! -e tests/files.sh ] || tests/files.sh $(TOOL)
+	tests/files.sh $(TOOL)
 
 ##   make example       the smallest loader
 example: target/loader

@@ -15,7 +15,7 @@ each() {
   "$1" 644 lib/pkgconfig/offload.pc tool/offload.pc.in
   "$1" 644 lib/cmake/offload/offload-config.cmake tool/offload-config.cmake
   "$1" 644 lib/cmake/offload/offload-config-version.cmake tool/offload-config-version.cmake.in
-  [[ ! -e tool/offload.1 ]] || "$1" 644 share/man/man1/offload.1 tool/offload.1
+  "$1" 644 share/man/man1/offload.1 tool/offload.1
 }
 
 # A file with the values in it.
