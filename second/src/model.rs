@@ -31,6 +31,8 @@ pub const STRINGS: u64 = 16;
 pub const IMAGE: u64 = 17;
 pub const MANY: u64 = 18;
 pub const END: u64 = 19;
+/// Document 02 adds numbers up to 23.
+pub const NUMBERS: usize = 24;
 
 // "Sizes".
 pub const SIZE_LIMIT: u128 = 1_073_741_824;
