@@ -213,7 +213,8 @@ pub const BINARIES: &[BinariesSample] = &[
 mod tests {
     use super::*;
     use crate::model::binaries::read_all;
-    use crate::model::bundle::{check, pick, Checked};
+    use crate::model::bundle::{check, entry_at, pick, Checked};
+    use crate::model::id::{canonical, meaning};
     use crate::model::{END, NONE, QUERY};
     use std::collections::BTreeSet;
 
@@ -227,6 +228,10 @@ mod tests {
                 assert_eq!((picked.number, picked.index), (OK, index as u64), "{}: {id}", sample.name);
                 let found = &sample.bytes[picked.position as usize..][..picked.size as usize];
                 assert!(found == *image, "{}: {id}", sample.name);
+                let located = entry_at(sample.bytes, index as u64);
+                assert_eq!((located.position, located.size), (picked.position, picked.size), "{}: {id}", sample.name);
+                let spelled = &sample.bytes[located.id_position as usize..][..located.id_length as usize];
+                assert_eq!(meaning(spelled).map(|entry| canonical(&entry)), Some(id.as_bytes().to_vec()));
             }
         }
     }

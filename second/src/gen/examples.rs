@@ -44,6 +44,7 @@ pub fn bundle_cases() -> Vec<bundles::Case> {
         bundle,
         zeros: 0,
         device: device.as_bytes().to_vec(),
+        index: 0,
         room: Room::Exact,
     };
     vec![
