@@ -44,52 +44,20 @@ fn expect_check(bundle: &[u8], number: usize, place: usize, count: usize)
     check::expect(r.count == count);
 }
 
-// The bench pieces, and 2 to 8.
-pub(crate) fn checks() {
+// MAGIC and COUNT.
+pub(crate) fn heads() {
     // "Empty input: MAGIC as a bundle"
     expect_check(b"", 2, 0, 0);
-    // "Magic and eight zero bytes: accepted, no entries"
-    expect_check(&NO_ENTRIES, 0, 0, 0);
-    // "Entries `gfx906` and `gfx906:xnack+` together: MIXED at the second."
-    expect_check(
-        b"__CLANG_OFFLOAD_BUNDLE__\x02\0\0\0\0\0\0\0\
-        \x8f\0\0\0\0\0\0\0\0\0\0\0\0\0\0\0\x1c\0\0\0\0\0\0\0hip-amdgcn-amd-amdhsa-gfx906\
-        \x8f\0\0\0\0\0\0\0\0\0\0\0\0\0\0\0\x23\0\0\0\0\0\0\0hip-amdgcn-amd-amdhsa-gfx906:xnack+",
-        8,
-        1,
-        0,
-    );
-    // "The two `gfx906` spellings of the fourth piece together: TWICE."
-    expect_check(
-        b"__CLANG_OFFLOAD_BUNDLE__\x02\0\0\0\0\0\0\0\
-        \xa9\0\0\0\0\0\0\0\0\0\0\0\0\0\0\0\x2c\0\0\0\0\0\0\0hip-amdgcn-amd-amdhsa-gfx906:xnack+:sramecc-\
-        \xa9\0\0\0\0\0\0\0\0\0\0\0\0\0\0\0\x2d\0\0\0\0\0\0\0hip-amdgcn-amd-amdhsa--gfx906:sramecc-:xnack+",
-        7,
-        1,
-        0,
-    );
-    // "Offset equal to the length with size 0: accepted."
-    expect_check(&HOST_ONLY, 0, 0, 1);
-    // "Size 1 there: RANGE."
-    expect_check(
-        b"__CLANG_OFFLOAD_BUNDLE__\x01\0\0\0\0\0\0\0\
-        \x56\0\0\0\0\0\0\0\x01\0\0\0\0\0\0\0\x1e\0\0\0\0\0\0\0host-x86_64-unknown-linux-gnu-",
-        6,
-        0,
-        0,
-    );
-    // an image that would end past the highest number
-    expect_check(
-        b"__CLANG_OFFLOAD_BUNDLE__\x01\0\0\0\0\0\0\0\
-        \x56\0\0\0\0\0\0\0\xff\xff\xff\xff\xff\xff\xff\xff\x1e\0\0\0\0\0\0\0host-x86_64-unknown-linux-gnu-",
-        6,
-        0,
-        0,
-    );
-    // "65 is COUNT."
-    expect_check(b"__CLANG_OFFLOAD_BUNDLE__\x41\0\0\0\0\0\0\0", 3, 0, 0);
     // magic alone
     expect_check(b"__CLANG_OFFLOAD_BUNDLE__", 3, 0, 0);
+    // "65 is COUNT."
+    expect_check(b"__CLANG_OFFLOAD_BUNDLE__\x41\0\0\0\0\0\0\0", 3, 0, 0);
+    // "Magic and eight zero bytes: accepted, no entries"
+    expect_check(&NO_ENTRIES, 0, 0, 0);
+}
+
+// TABLE and ID.
+pub(crate) fn tables() {
     // "An ID length of 2^64 - 1 is TABLE."
     expect_check(
         b"__CLANG_OFFLOAD_BUNDLE__\x01\0\0\0\0\0\0\0\
@@ -115,7 +83,51 @@ pub(crate) fn checks() {
         0,
     );
     expect_check(&HOST_SPELLED, 0, 0, 1);
+}
+
+// RANGE.
+pub(crate) fn ranges() {
+    // "Offset equal to the length with size 0: accepted."
+    expect_check(&HOST_ONLY, 0, 0, 1);
+    // "Size 1 there: RANGE."
+    expect_check(
+        b"__CLANG_OFFLOAD_BUNDLE__\x01\0\0\0\0\0\0\0\
+        \x56\0\0\0\0\0\0\0\x01\0\0\0\0\0\0\0\x1e\0\0\0\0\0\0\0host-x86_64-unknown-linux-gnu-",
+        6,
+        0,
+        0,
+    );
+    // an image that would end past the highest number
+    expect_check(
+        b"__CLANG_OFFLOAD_BUNDLE__\x01\0\0\0\0\0\0\0\
+        \x56\0\0\0\0\0\0\0\xff\xff\xff\xff\xff\xff\xff\xff\x1e\0\0\0\0\0\0\0host-x86_64-unknown-linux-gnu-",
+        6,
+        0,
+        0,
+    );
     expect_check(&HOST, 0, 0, 1);
+}
+
+// TWICE and MIXED.
+pub(crate) fn meanings() {
+    // "The two `gfx906` spellings of the fourth piece together: TWICE."
+    expect_check(
+        b"__CLANG_OFFLOAD_BUNDLE__\x02\0\0\0\0\0\0\0\
+        \xa9\0\0\0\0\0\0\0\0\0\0\0\0\0\0\0\x2c\0\0\0\0\0\0\0hip-amdgcn-amd-amdhsa-gfx906:xnack+:sramecc-\
+        \xa9\0\0\0\0\0\0\0\0\0\0\0\0\0\0\0\x2d\0\0\0\0\0\0\0hip-amdgcn-amd-amdhsa--gfx906:sramecc-:xnack+",
+        7,
+        1,
+        0,
+    );
+    // "Entries `gfx906` and `gfx906:xnack+` together: MIXED at the second."
+    expect_check(
+        b"__CLANG_OFFLOAD_BUNDLE__\x02\0\0\0\0\0\0\0\
+        \x8f\0\0\0\0\0\0\0\0\0\0\0\0\0\0\0\x1c\0\0\0\0\0\0\0hip-amdgcn-amd-amdhsa-gfx906\
+        \x8f\0\0\0\0\0\0\0\0\0\0\0\0\0\0\0\x23\0\0\0\0\0\0\0hip-amdgcn-amd-amdhsa-gfx906:xnack+",
+        8,
+        1,
+        0,
+    );
     expect_check(&TWO_CARDS, 0, 0, 2);
     expect_check(&TWO_CARDS_NORMAL, 0, 0, 2);
 }
@@ -139,7 +151,7 @@ fn expect_pick(
     check::expect(r.size == size);
 }
 
-// OK from a bundle and from its normal form, 1 to 8 as the check has them, QUERY and NONE.
+// Picked, from a bundle and from its normal form.
 pub(crate) fn picks() {
     expect_pick(
         &TWO_CARDS,
@@ -169,9 +181,17 @@ pub(crate) fn picks() {
         3,
     );
     expect_pick(&HOST_ONLY, b"host-x86_64-unknown-linux-gnu", 0, 0, 0, 86, 0);
+}
+
+// A refusal of the check, and QUERY.
+pub(crate) fn not_asked() {
     expect_pick(b"", b"", 2, 0, 0, 0, 0);
     expect_pick(&HOST, b"", 9, 0, 0, 0, 0);
     expect_pick(&HOST, b"hip-a-b-c-d-:xnack+", 9, 0, 0, 0, 0);
+}
+
+// NONE.
+pub(crate) fn not_found() {
     expect_pick(
         &NO_ENTRIES,
         b"host-x86_64-unknown-linux-gnu",
@@ -213,7 +233,7 @@ fn expect_normalise(
     check::expect(check::same(out, after));
 }
 
-// Room that is just enough, ROOM with one byte less, a byte of the output beyond, and the normal form normalised again.
+// Room that is just enough, ROOM with one byte less, and a normal form normalised again.
 pub(crate) fn normal_forms() {
     // "its own normal form, 32 bytes"
     expect_normalise(&NO_ENTRIES, &mut [b'.'; 32], 0, 0, 32, &NO_ENTRIES);
@@ -222,6 +242,10 @@ pub(crate) fn normal_forms() {
     expect_normalise(&HOST_SPELLED, &mut [b'.'; 90], 12, 0, 0, &[b'.'; 90]);
     expect_normalise(&HOST, &mut [b'.'; 91], 0, 0, 91, &HOST);
     expect_normalise(&HOST_ONLY, &mut [b'.'; 86], 0, 0, 86, &HOST_ONLY);
+}
+
+// The same of two entries, with a byte of room beyond; a refusal of the check.
+pub(crate) fn sorted_forms() {
     expect_normalise(&TWO_CARDS, &mut [b'.'; 157], 0, 0, 157, &TWO_CARDS_NORMAL);
     expect_normalise(
         &TWO_CARDS,

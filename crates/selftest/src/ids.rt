@@ -43,6 +43,9 @@ pub(crate) fn forms() {
         20,
         b"openmp-a-b-c-gfxenv-....",
     );
+}
+
+pub(crate) fn more_forms() {
     // four fields; a kind that is none; a name stated twice; a prefix first
     expect_form(b"hipv4-a-b-c", &mut [b'.'; 13], 13, b"hipv4-a-b-c--");
     expect_form(b"cuda-a-b-c", &mut [b'.'; 13], 0, &[b'.'; 13]);

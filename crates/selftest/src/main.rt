@@ -3,6 +3,7 @@
 mod bundles;
 mod ids;
 mod words;
+mod writers;
 
 fn main() {
     words::words();
@@ -10,8 +11,15 @@ fn main() {
     words::puts();
     words::copies();
     ids::forms();
+    ids::more_forms();
     ids::standings();
-    bundles::checks();
+    bundles::heads();
+    bundles::tables();
+    bundles::ranges();
+    bundles::meanings();
     bundles::picks();
+    bundles::not_asked();
+    bundles::not_found();
     bundles::normal_forms();
+    bundles::sorted_forms();
 }

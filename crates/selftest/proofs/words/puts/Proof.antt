@@ -2,15 +2,14 @@
 -- Assumes nothing.
 use mathlib.Core.Path.{refl}
 use borrow.Author.Needs.{needs}
-use Rattle.wire.specs.Bytes.{same, before, common, overwrite}
-use Rattle.wire.specs.Word.{bytesOf, wordOf, word}
+use Rattle.selftest.proofs.Computing as computing
 use Rattle.selftest.proofs.words.puts.Statement.{statement}
 use Rattle.selftest.proofs.words.puts.Tie as tie
 
 pub puts-spec : {M : Type 1} → statement M
-unfolding same before common overwrite bytesOf wordOf word
+unfolding computing.words
 puts-spec = tie.close (tie.spec
-    (λ c. search needs) (λ c. search needs) (λ c κs. refl)
-    (λ c. search needs) (λ c. search needs) (λ c κs. refl)
-    (λ c. search needs) (λ c. search needs) (λ c κs. refl)
-    (λ c. search needs))
+  (λ c. refl) (λ c. refl) (λ c κs. refl)
+  (λ c. refl) (λ c. refl) (λ c κs. refl)
+  (λ c. refl) (λ c. refl) (λ c κs. refl)
+  (λ c. search needs))
