@@ -9,8 +9,8 @@ use Rattle.selftest.proofs.bundles.heads.Tie as tie
 pub heads-spec : {M : Type 1} → statement M
 unfolding computing.bundles
 heads-spec = tie.close (tie.spec
-  (λ c. refl) (λ c κs. refl)
-  (λ c. refl) (λ c κs. refl)
-  (λ c. refl) (λ c κs. refl)
-  (λ c. refl) (λ c κs. refl)
-  (λ c. search needs))
+    (λ c. refl) (λ c κs. refl)
+    (λ c. refl) (λ c κs. refl)
+    (λ c. refl) (λ c κs. refl)
+    (λ c. refl) (λ c κs. refl)
+    (λ c. search needs))

@@ -9,9 +9,9 @@ use Rattle.selftest.proofs.bundles.normal_forms.Tie as tie
 pub normal-forms-spec : {M : Type 1} → statement M
 unfolding computing.bundles
 normal-forms-spec = tie.close (tie.spec
-  (λ c. refl) (λ c. refl) (λ c. refl) (λ c κs. (refl, refl))
-  (λ c. refl) (λ c. refl) (λ c. refl) (λ c κs. (refl, refl))
-  (λ c. refl) (λ c. refl) (λ c. refl) (λ c κs. (refl, refl))
-  (λ c. refl) (λ c. refl) (λ c. refl) (λ c κs. (refl, refl))
-  (λ c. refl) (λ c. refl) (λ c. refl) (λ c κs. (refl, refl))
-  (λ c. search needs))
+    (λ c. refl) (λ c. refl) (λ c. refl) (λ c κs. (refl, refl))
+    (λ c. refl) (λ c. refl) (λ c. refl) (λ c κs. (refl, refl))
+    (λ c. refl) (λ c. refl) (λ c. refl) (λ c κs. (refl, refl))
+    (λ c. refl) (λ c. refl) (λ c. refl) (λ c κs. (refl, refl))
+    (λ c. refl) (λ c. refl) (λ c. refl) (λ c κs. (refl, refl))
+    (λ c. search needs))

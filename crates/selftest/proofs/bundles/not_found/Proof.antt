@@ -9,7 +9,7 @@ use Rattle.selftest.proofs.bundles.not_found.Tie as tie
 pub not-found-spec : {M : Type 1} → statement M
 unfolding computing.bundles
 not-found-spec = tie.close (tie.spec
-  (λ c. refl) (λ c. refl) (λ c κs. refl)
-  (λ c. refl) (λ c. refl) (λ c κs. refl)
-  (λ c. refl) (λ c. refl) (λ c κs. refl)
-  (λ c. search needs))
+    (λ c. refl) (λ c. refl) (λ c κs. refl)
+    (λ c. refl) (λ c. refl) (λ c κs. refl)
+    (λ c. refl) (λ c. refl) (λ c κs. refl)
+    (λ c. search needs))

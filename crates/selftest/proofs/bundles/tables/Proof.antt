@@ -9,8 +9,8 @@ use Rattle.selftest.proofs.bundles.tables.Tie as tie
 pub tables-spec : {M : Type 1} → statement M
 unfolding computing.bundles
 tables-spec = tie.close (tie.spec
-  (λ c. refl) (λ c κs. refl)
-  (λ c. refl) (λ c κs. refl)
-  (λ c. refl) (λ c κs. refl)
-  (λ c. refl) (λ c κs. refl)
-  (λ c. search needs))
+    (λ c. refl) (λ c κs. refl)
+    (λ c. refl) (λ c κs. refl)
+    (λ c. refl) (λ c κs. refl)
+    (λ c. refl) (λ c κs. refl)
+    (λ c. search needs))

@@ -9,9 +9,9 @@ use Rattle.selftest.proofs.ids.standings.Tie as tie
 pub standings-spec : {M : Type 1} → statement M
 unfolding computing.ids
 standings-spec = tie.close (tie.spec
-  (λ c. refl) (λ c. refl) (λ c κs. (refl, refl, refl))
-  (λ c. refl) (λ c. refl) (λ c κs. (refl, refl, refl))
-  (λ c. refl) (λ c. refl) (λ c κs. (refl, refl, refl))
-  (λ c. refl) (λ c. refl) (λ c κs. (refl, refl, refl))
-  (λ c. refl) (λ c. refl) (λ c κs. (refl, refl, refl))
-  (λ c. search needs))
+    (λ c. refl) (λ c. refl) (λ c κs. (refl, refl, refl))
+    (λ c. refl) (λ c. refl) (λ c κs. (refl, refl, refl))
+    (λ c. refl) (λ c. refl) (λ c κs. (refl, refl, refl))
+    (λ c. refl) (λ c. refl) (λ c κs. (refl, refl, refl))
+    (λ c. refl) (λ c. refl) (λ c κs. (refl, refl, refl))
+    (λ c. search needs))

@@ -9,9 +9,9 @@ use Rattle.selftest.proofs.words.comparisons.Tie as tie
 pub comparisons-spec : {M : Type 1} → statement M
 unfolding computing.words
 comparisons-spec = tie.close (tie.spec
-  (λ c. refl) (λ c. refl) (λ c κs. (refl, refl, refl))
-  (λ c. refl) (λ c. refl) (λ c κs. (refl, refl, refl))
-  (λ c. refl) (λ c. refl) (λ c κs. (refl, refl, refl))
-  (λ c. refl) (λ c. refl) (λ c κs. (refl, refl, refl))
-  (λ c. refl) (λ c. refl) (λ c κs. (refl, refl, refl))
-  (λ c. search needs))
+    (λ c. refl) (λ c. refl) (λ c κs. (refl, refl, refl))
+    (λ c. refl) (λ c. refl) (λ c κs. (refl, refl, refl))
+    (λ c. refl) (λ c. refl) (λ c κs. (refl, refl, refl))
+    (λ c. refl) (λ c. refl) (λ c κs. (refl, refl, refl))
+    (λ c. refl) (λ c. refl) (λ c κs. (refl, refl, refl))
+    (λ c. search needs))

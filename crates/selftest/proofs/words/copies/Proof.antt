@@ -9,9 +9,9 @@ use Rattle.selftest.proofs.words.copies.Tie as tie
 pub copies-spec : {M : Type 1} → statement M
 unfolding computing.words
 copies-spec = tie.close (tie.spec
-  (λ c. refl) (λ c. refl) (λ c. refl) (λ c κs. refl)
-  (λ c. refl) (λ c. refl) (λ c. refl) (λ c κs. refl)
-  (λ c. refl) (λ c. refl) (λ c. refl) (λ c κs. refl)
-  (λ c. refl) (λ c. refl) (λ c. refl) (λ c κs. refl)
-  (λ c. refl) (λ c. refl) (λ c. refl) (λ c κs. refl)
-  (λ c. search needs))
+    (λ c. refl) (λ c. refl) (λ c. refl) (λ c κs. refl)
+    (λ c. refl) (λ c. refl) (λ c. refl) (λ c κs. refl)
+    (λ c. refl) (λ c. refl) (λ c. refl) (λ c κs. refl)
+    (λ c. refl) (λ c. refl) (λ c. refl) (λ c κs. refl)
+    (λ c. refl) (λ c. refl) (λ c. refl) (λ c κs. refl)
+    (λ c. search needs))

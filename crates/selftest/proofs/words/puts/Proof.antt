@@ -9,7 +9,7 @@ use Rattle.selftest.proofs.words.puts.Tie as tie
 pub puts-spec : {M : Type 1} → statement M
 unfolding computing.words
 puts-spec = tie.close (tie.spec
-  (λ c. refl) (λ c. refl) (λ c κs. refl)
-  (λ c. refl) (λ c. refl) (λ c κs. refl)
-  (λ c. refl) (λ c. refl) (λ c κs. refl)
-  (λ c. search needs))
+    (λ c. refl) (λ c. refl) (λ c κs. refl)
+    (λ c. refl) (λ c. refl) (λ c κs. refl)
+    (λ c. refl) (λ c. refl) (λ c κs. refl)
+    (λ c. search needs))

@@ -9,8 +9,8 @@ use Rattle.selftest.proofs.words.words.Tie as tie
 pub words-spec : {M : Type 1} → statement M
 unfolding computing.words
 words-spec = tie.close (tie.spec
-  (λ c. refl) (λ c κs. (refl, refl, refl))
-  (λ c. refl) (λ c κs. (refl, refl, refl))
-  (λ c. refl) (λ c κs. (refl, refl, refl))
-  (λ c. refl) (λ c κs. (refl, refl, refl))
-  (λ c. search needs))
+    (λ c. refl) (λ c κs. (refl, refl, refl))
+    (λ c. refl) (λ c κs. (refl, refl, refl))
+    (λ c. refl) (λ c κs. (refl, refl, refl))
+    (λ c. refl) (λ c κs. (refl, refl, refl))
+    (λ c. search needs))
