@@ -56,10 +56,10 @@ use Rattle.offload_binary_list.proofs.write_binary as writes
 use Rattle.offload_binary_list.proofs.write_binary.Symbol as writes-def
 use Rattle.offload_binary_list.proofs.write_binary.Symbol.{name as #write-binary}
 use Rattle.offload_binary_list.proofs.write_binary.Met as writes-thm
-use Rattle.selftest.proofs.writers.write_pairs.Key.{name as #this}
-use Rattle.selftest.proofs.writers.write_pairs as this
-use Rattle.selftest.proofs.writers.write_pairs.Statement as stated
-use Rattle.selftest.proofs.writers.write_pairs.Code as code
+use Rattle.selftest.proofs.binary_writer.write_pairs.Key.{name as #this}
+use Rattle.selftest.proofs.binary_writer.write_pairs as this
+use Rattle.selftest.proofs.binary_writer.write_pairs.Statement as stated
+use Rattle.selftest.proofs.binary_writer.write_pairs.Code as code
 
 abbrev R : RattleType
 R = T.the-row

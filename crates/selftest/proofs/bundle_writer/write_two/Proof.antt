@@ -54,10 +54,10 @@ use Rattle.normal_form.proofs.write_bundle as writes
 use Rattle.normal_form.proofs.write_bundle.Symbol as writes-def
 use Rattle.normal_form.proofs.write_bundle.Symbol.{name as #write-bundle}
 use Rattle.normal_form.proofs.write_bundle.Met as writes-thm
-use Rattle.selftest.proofs.writers.write_two.Key.{name as #this}
-use Rattle.selftest.proofs.writers.write_two as this
-use Rattle.selftest.proofs.writers.write_two.Statement as stated
-use Rattle.selftest.proofs.writers.write_two.Code as code
+use Rattle.selftest.proofs.bundle_writer.write_two.Key.{name as #this}
+use Rattle.selftest.proofs.bundle_writer.write_two as this
+use Rattle.selftest.proofs.bundle_writer.write_two.Statement as stated
+use Rattle.selftest.proofs.bundle_writer.write_two.Code as code
 
 abbrev R : RattleType
 R = T.the-row
