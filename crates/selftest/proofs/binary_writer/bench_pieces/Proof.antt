@@ -1,0 +1,14 @@
+-- `bench_pieces` meets its contract: the definitions give what each case expects, by computation.
+-- Assumes nothing.
+use mathlib.Core.Path.{refl}
+use borrow.Author.Needs.{needs}
+use Rattle.selftest.proofs.Computing as computing
+use Rattle.selftest.proofs.binary_writer.bench_pieces.Statement.{statement}
+use Rattle.selftest.proofs.binary_writer.bench_pieces.Tie as tie
+
+pub bench-pieces-spec : {M : Type 1} → statement M
+unfolding computing.binaries
+bench-pieces-spec = tie.close (tie.spec
+    (λ c. refl) (λ c. refl) (λ c. refl) (λ c. refl) (λ c κs. refl)
+    (λ c. refl) (λ c. refl) (λ c. refl) (λ c. refl) (λ c κs. refl)
+    (λ c. search needs))
