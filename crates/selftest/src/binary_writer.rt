@@ -84,13 +84,11 @@ fn expect_pairs(
     requires { ⌜ write tags (now image) (x ∷ y ∷ []) (now strings) (now out) ≡ record { answer = record { number = number; place = 0; len = written }; out = now after } ⌝ }
 {
     let r = write_pairs(x, y, tags, image, strings, out);
-    check::expect(r.number == number);
-    check::expect(r.place == 0);
-    check::expect(r.len == written);
+    check::expect((r.number == number) & (r.place == 0) & (r.len == written));
     check::expect(check::same(out, after));
 }
 
-// Room that is just enough, and a byte of room beyond.
+// Room that is just enough.
 pub(crate) fn written() {
     expect_pairs(
         ARCH,
@@ -103,6 +101,10 @@ pub(crate) fn written() {
         152,
         &PAIRS_BINARY,
     );
+}
+
+// A byte of room beyond.
+pub(crate) fn written_before() {
     expect_pairs(
         ARCH,
         TRIPLE,
@@ -120,8 +122,8 @@ pub(crate) fn written() {
     );
 }
 
-// ROOM with one byte less, KIND, and STRINGS of two equal keys.
-pub(crate) fn not_written() {
+// ROOM with one byte less.
+pub(crate) fn no_room() {
     expect_pairs(
         ARCH,
         TRIPLE,
@@ -133,6 +135,10 @@ pub(crate) fn not_written() {
         0,
         &[b'.'; 151],
     );
+}
+
+// KIND, and STRINGS of two equal keys.
+pub(crate) fn not_written() {
     expect_pairs(
         ARCH,
         TRIPLE,
@@ -157,31 +163,8 @@ pub(crate) fn not_written() {
     );
 }
 
-// The same of the first n pairs of an array that starts with this one,
-fn expect_array(
-    x: StringPair,
-    n: usize,
-    tags: Tags,
-    image: &[u8],
-    strings: &[u8],
-    out: &mut [u8],
-    number: usize,
-    written: usize,
-    after: &[u8],
-)
-    requires { ⌜ write tags (now image) (listed (set (slots 32 noPair []) 0 x) n) (now strings) (now out) ≡ record { answer = record { number = number; place = 0; len = written }; out = now after } ⌝ }
-{
-    let mut pairs = offload_binary_parts::no_pairs();
-    pairs[0] = x;
-    let r = offload_binary_writer::write_array(tags, image, pairs, n, strings, out);
-    check::expect(r.number == number);
-    check::expect(r.place == 0);
-    check::expect(r.len == written);
-    check::expect(check::same(out, after));
-}
-
-// "Binary with no strings and no image: 72 bytes. With `arch`/`sm_70` and a 3-byte image: image at 104, size 112."
-pub(crate) fn bench_pieces() {
+// "Binary with no strings and no image: 72 bytes."
+pub(crate) fn bare() {
     expect_array(
         ARCH,
         0,
@@ -194,6 +177,10 @@ pub(crate) fn bench_pieces() {
         b"\x10\xff\x10\xad\x01\0\0\0\x48\0\0\0\0\0\0\0\x20\0\0\0\0\0\0\0\x28\0\0\0\0\0\0\0\
         \0\0\0\0\0\0\0\0\x48\0\0\0\0\0\0\0\0\0\0\0\0\0\0\0\x48\0\0\0\0\0\0\0\0\0\0\0\0\0\0\0",
     );
+}
+
+// "With `arch`/`sm_70` and a 3-byte image: image at 104, size 112."
+pub(crate) fn with_arch() {
     expect_array(
         ARCH,
         1,
@@ -223,4 +210,25 @@ pub(crate) fn too_many() {
         0,
         b".",
     );
+}
+
+// The same of the first n pairs of an array that starts with this one,
+fn expect_array(
+    x: StringPair,
+    n: usize,
+    tags: Tags,
+    image: &[u8],
+    strings: &[u8],
+    out: &mut [u8],
+    number: usize,
+    written: usize,
+    after: &[u8],
+)
+    requires { ⌜ write tags (now image) (listed (set (slots 32 noPair []) 0 x) n) (now strings) (now out) ≡ record { answer = record { number = number; place = 0; len = written }; out = now after } ⌝ }
+{
+    let mut pairs = offload_binary_parts::no_pairs();
+    pairs[0] = x;
+    let r = offload_binary_writer::write_array(tags, image, pairs, n, strings, out);
+    check::expect((r.number == number) & (r.place == 0) & (r.len == written));
+    check::expect(check::same(out, after));
 }

@@ -87,13 +87,11 @@ fn expect_bundle(
     requires { ⌜ (write idRules 2 (x ∷ y ∷ []) (now ids) (now images) (length (now out)) ≡ record { number = number; place = place; length = written }) × (writtenTo idRules 2 (x ∷ y ∷ []) (now ids) (now images) (now out) ≡ now after) ⌝ }
 {
     let r = write_two(x, y, ids, images, out);
-    check::expect(r.number == number);
-    check::expect(r.place == place);
-    check::expect(r.length == written);
+    check::expect((r.number == number) & (r.place == place) & (r.length == written));
     check::expect(check::same(out, after));
 }
 
-// Room that is just enough, and a byte of room beyond.
+// Room that is just enough.
 pub(crate) fn written() {
     expect_bundle(
         FIRST,
@@ -106,6 +104,10 @@ pub(crate) fn written() {
         157,
         &CARDS_BUNDLE,
     );
+}
+
+// A byte of room beyond.
+pub(crate) fn written_before() {
     expect_bundle(
         FIRST,
         SECOND,
@@ -122,7 +124,7 @@ pub(crate) fn written() {
     );
 }
 
-// ROOM with one byte less, and TABLE.
+// ROOM with one byte less.
 pub(crate) fn no_room() {
     expect_bundle(
         FIRST,
@@ -135,6 +137,10 @@ pub(crate) fn no_room() {
         0,
         &[b'.'; 156],
     );
+}
+
+// TABLE and ID.
+pub(crate) fn no_ids() {
     expect_bundle(
         FIRST,
         PAST_IDS,
@@ -146,10 +152,6 @@ pub(crate) fn no_room() {
         0,
         b".",
     );
-}
-
-// ID and RANGE.
-pub(crate) fn no_entries() {
     expect_bundle(
         NO_ID,
         SECOND,
@@ -161,6 +163,10 @@ pub(crate) fn no_entries() {
         0,
         b".",
     );
+}
+
+// RANGE and TWICE.
+pub(crate) fn no_entries() {
     expect_bundle(
         FIRST,
         PAST_IMAGES,
@@ -172,11 +178,11 @@ pub(crate) fn no_entries() {
         0,
         b".",
     );
+    expect_bundle(FIRST, FIRST, &CARDS, b"abcd", &mut [b'.'; 1], 7, 1, 0, b".");
 }
 
-// TWICE and MIXED.
-pub(crate) fn no_bundles() {
-    expect_bundle(FIRST, FIRST, &CARDS, b"abcd", &mut [b'.'; 1], 7, 1, 0, b".");
+// MIXED.
+pub(crate) fn no_bundle() {
     expect_bundle(
         FIRST,
         ANY_XNACK,

@@ -39,9 +39,7 @@ fn expect_check(bundle: &[u8], number: usize, place: usize, count: usize)
     requires { ⌜ check idRules (now bundle) ≡ record { number = number; place = place; count = count } ⌝ }
 {
     let r = bundle_reader::check(bundle);
-    check::expect(r.number == number);
-    check::expect(r.place == place);
-    check::expect(r.count == count);
+    check::expect((r.number == number) & (r.place == place) & (r.count == count));
 }
 
 // MAGIC and COUNT.
@@ -144,11 +142,13 @@ fn expect_pick(
     requires { ⌜ pick idRules (now bundle) (now device) ≡ record { number = number; place = place; index = index; position = position; size = size } ⌝ }
 {
     let r = bundle_reader::pick(bundle, device);
-    check::expect(r.number == number);
-    check::expect(r.place == place);
-    check::expect(r.index == index);
-    check::expect(r.position == position);
-    check::expect(r.size == size);
+    check::expect(
+        (r.number == number)
+            & (r.place == place)
+            & (r.index == index)
+            & (r.position == position)
+            & (r.size == size),
+    );
 }
 
 // Picked, from a bundle and from its normal form.
@@ -171,6 +171,10 @@ pub(crate) fn picks() {
         152,
         2,
     );
+}
+
+// Picked: another sign, and an empty image.
+pub(crate) fn more_picks() {
     expect_pick(
         &TWO_CARDS,
         b"hip-amdgcn-amd-amdhsa--gfx906:xnack-",
@@ -227,25 +231,33 @@ fn expect_normalise(
     requires { ⌜ (normalise idRules (now bundle) (length (now out)) ≡ record { number = number; place = place; length = written }) × (normalised idRules (now bundle) (now out) ≡ now after) ⌝ }
 {
     let r = normal_form::normalise(bundle, out);
-    check::expect(r.number == number);
-    check::expect(r.place == place);
-    check::expect(r.length == written);
+    check::expect((r.number == number) & (r.place == place) & (r.length == written));
     check::expect(check::same(out, after));
 }
 
-// Room that is just enough, ROOM with one byte less, and a normal form normalised again.
-pub(crate) fn normal_forms() {
+// A bundle that is its own normal form; a refusal of the check.
+pub(crate) fn no_entries_normal() {
     // "its own normal form, 32 bytes"
     expect_normalise(&NO_ENTRIES, &mut [b'.'; 32], 0, 0, 32, &NO_ENTRIES);
+    // refused by the check
+    expect_normalise(b"", &mut [b'.'; 1], 2, 0, 0, b".");
+}
+
+// Room that is just enough, and ROOM with one byte less.
+pub(crate) fn host_normal() {
     // "table end 86 and normal length 91"
     expect_normalise(&HOST_SPELLED, &mut [b'.'; 91], 0, 0, 91, &HOST);
     expect_normalise(&HOST_SPELLED, &mut [b'.'; 90], 12, 0, 0, &[b'.'; 90]);
+}
+
+// A normal form normalised again.
+pub(crate) fn normal_again() {
     expect_normalise(&HOST, &mut [b'.'; 91], 0, 0, 91, &HOST);
     expect_normalise(&HOST_ONLY, &mut [b'.'; 86], 0, 0, 86, &HOST_ONLY);
 }
 
-// The same of two entries, with a byte of room beyond; a refusal of the check.
-pub(crate) fn sorted_forms() {
+// Entries sorted and packed, with room that is just enough, and with a byte beyond.
+pub(crate) fn cards_normal() {
     expect_normalise(&TWO_CARDS, &mut [b'.'; 157], 0, 0, 157, &TWO_CARDS_NORMAL);
     expect_normalise(
         &TWO_CARDS,
@@ -258,6 +270,10 @@ pub(crate) fn sorted_forms() {
         \x9a\0\0\0\0\0\0\0\x03\0\0\0\0\0\0\0\x24\0\0\0\0\0\0\0hip-amdgcn-amd-amdhsa--gfx906:xnack-\
         cdabc.",
     );
+}
+
+// ROOM with one byte less, and the normal form normalised again.
+pub(crate) fn cards_again() {
     expect_normalise(&TWO_CARDS, &mut [b'.'; 156], 12, 0, 0, &[b'.'; 156]);
     expect_normalise(
         &TWO_CARDS_NORMAL,
@@ -267,6 +283,4 @@ pub(crate) fn sorted_forms() {
         157,
         &TWO_CARDS_NORMAL,
     );
-    // refused by the check
-    expect_normalise(b"", &mut [b'.'; 1], 2, 0, 0, b".");
 }

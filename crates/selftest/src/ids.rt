@@ -13,7 +13,7 @@ fn expect_form(id: &[u8], out: &mut [u8], len: usize, after: &[u8])
     check::expect(check::same(out, after));
 }
 
-pub(crate) fn forms() {
+pub(crate) fn host_forms() {
     // "`host-x86_64-unknown-linux-gnu` has canonical form `host-x86_64-unknown-linux-gnu-`, 30 bytes."
     expect_form(
         b"host-x86_64-unknown-linux-gnu",
@@ -27,6 +27,9 @@ pub(crate) fn forms() {
         0,
         &[b'.'; 29],
     );
+}
+
+pub(crate) fn card_forms() {
     // "`hip-amdgcn-amd-amdhsa-gfx906:xnack+:sramecc-` becomes `hip-amdgcn-amd-amdhsa--gfx906:sramecc-:xnack+`, 45 bytes."
     expect_form(
         b"hip-amdgcn-amd-amdhsa-gfx906:xnack+:sramecc-",
@@ -34,8 +37,16 @@ pub(crate) fn forms() {
         45,
         b"hip-amdgcn-amd-amdhsa--gfx906:sramecc-:xnack+",
     );
-    // "`hip-a-b-c-d-:xnack+` is ID."
-    expect_form(b"hip-a-b-c-d-:xnack+", &mut [b'.'; 32], 0, &[b'.'; 32]);
+    expect_form(
+        b"hip-a-b-c-sm_70:xy+:x-",
+        &mut [b'.'; 23],
+        23,
+        b"hip-a-b-c--sm_70:x-:xy+",
+    );
+}
+
+// Four fields, and six: an environment that would read back as a processor.
+pub(crate) fn field_forms() {
     // an environment that would read back as a processor
     expect_form(
         b"openmp-a-b-c-gfxenv-",
@@ -43,19 +54,20 @@ pub(crate) fn forms() {
         20,
         b"openmp-a-b-c-gfxenv-....",
     );
-}
-
-pub(crate) fn more_forms() {
     // four fields; a kind that is none; a name stated twice; a prefix first
     expect_form(b"hipv4-a-b-c", &mut [b'.'; 13], 13, b"hipv4-a-b-c--");
-    expect_form(b"cuda-a-b-c", &mut [b'.'; 13], 0, &[b'.'; 13]);
+}
+
+// A feature without a processor; a name stated twice.
+pub(crate) fn no_features() {
+    // "`hip-a-b-c-d-:xnack+` is ID."
+    expect_form(b"hip-a-b-c-d-:xnack+", &mut [b'.'; 32], 0, &[b'.'; 32]);
     expect_form(b"hip-a-b-c-sm_70:x+:x-", &mut [b'.'; 32], 0, &[b'.'; 32]);
-    expect_form(
-        b"hip-a-b-c-sm_70:xy+:x-",
-        &mut [b'.'; 23],
-        23,
-        b"hip-a-b-c--sm_70:x-:xy+",
-    );
+}
+
+// A kind that is none; no text.
+pub(crate) fn no_kinds() {
+    expect_form(b"cuda-a-b-c", &mut [b'.'; 13], 0, &[b'.'; 13]);
     expect_form(b"", &mut [b'.'; 1], 0, b".");
 }
 
@@ -65,8 +77,7 @@ fn expect_standing(entry: &[u8], device: &[u8], compatible: bool, same: bool, mi
 {
     check::expect(entry_compare::compatible(entry, device) == compatible);
     let r = entry_compare::relation_of(entry, device);
-    check::expect(r.same == same);
-    check::expect(r.mixed == mixed);
+    check::expect((r.same == same) & (r.mixed == mixed));
 }
 
 pub(crate) fn standings() {
@@ -86,6 +97,10 @@ pub(crate) fn standings() {
         false,
         true,
     );
+}
+
+// Other signs; equal texts; "kinds are equal or not".
+pub(crate) fn more_standings() {
     expect_standing(
         b"hip-amdgcn-amd-amdhsa--gfx906:xnack-",
         b"hip-amdgcn-amd-amdhsa--gfx906:xnack+",

@@ -37,6 +37,10 @@ pub(crate) fn comparisons() {
     expect_compared(b"", b"", 0, true, false);
     expect_compared(b"xnack", b"xnack+", 5, false, true);
     expect_compared(b"\xff", b"\x7f", 0, false, false);
+}
+
+// Longer than a block of 16 bytes.
+pub(crate) fn long_comparisons() {
     expect_compared(
         b"0123456789abcdef0123456789abcdef!",
         b"0123456789abcdef0123456789abcdef!",
@@ -82,6 +86,10 @@ fn expect_copy(out: &mut [u8], at: usize, src: &[u8], after: &[u8])
 pub(crate) fn copies() {
     expect_copy(&mut [b'.'; 5], 1, b"abc", b".abc.");
     expect_copy(&mut [b'.'; 5], 5, b"", &[b'.'; 5]);
+}
+
+// What does not fit leaves the output as it was.
+pub(crate) fn no_copies() {
     expect_copy(&mut [b'.'; 5], 3, b"abc", &[b'.'; 5]);
     expect_copy(&mut [b'.'; 5], 6, b"", &[b'.'; 5]);
     expect_copy(&mut [b'.'; 5], 18446744073709551615, b"abc", &[b'.'; 5]);

@@ -1,8 +1,7 @@
 -- `expect_next` meets its contract: what the reader answers is what the definition gives.
 -- Assumes nothing.
-use mathlib.Core.Path.{ap, _∙_, sym}
+use mathlib.Core.Path.{_∙_}
 use borrow.Author.Needs.{needs}
-use borrow.Author.Tests.{eq-eqb}
 use Rattle.selftest.proofs.binaries.expect_next.Statement.{statement}
 use Rattle.selftest.proofs.binaries.expect_next.Tie as tie
 

@@ -10,5 +10,4 @@ pub written-spec : {M : Type 1} → statement M
 unfolding computing.binaries
 written-spec = tie.close (tie.spec
     (λ c. refl) (λ c. refl) (λ c. refl) (λ c. refl) (λ c κs. refl)
-    (λ c. refl) (λ c. refl) (λ c. refl) (λ c. refl) (λ c κs. refl)
     (λ c. search needs))

@@ -10,5 +10,4 @@ pub no-room-spec : {M : Type 1} → statement M
 unfolding computing.bundles
 no-room-spec = tie.close (tie.spec
     (λ c. refl) (λ c. refl) (λ c. refl) (λ c. refl) (λ c κs. (refl, refl))
-    (λ c. refl) (λ c. refl) (λ c. refl) (λ c. refl) (λ c κs. (refl, refl))
     (λ c. search needs))

@@ -1,19 +1,16 @@
--- `expect_check` meets its contract: what the check returns is what the definition gives, field by field.
+-- `expect_check` meets its contract: what the check returns is what the definition gives.
 -- Assumes nothing.
-use mathlib.Core.Path.{ap, _∙_, sym}
+use mathlib.Core.Path.{ap, _∙_}
 use borrow.Author.Needs.{needs}
 use borrow.Author.Tests.{eq-eqb}
+use Rattle.wire.proofs.Bools.{both-and}
 use Rattle.selftest.proofs.bundles.expect_check.Statement.{statement}
 use Rattle.selftest.proofs.bundles.expect_check.Tie as tie
 
 expect-requires : tie.Need-expect-requires
-expect-requires c κs = eq-eqb _ _ (ap (λ r. r .number) (c .before .check .ensures ∙ c .before .before .before .pre))
-
-expect-requires-2 : tie.Need-expect-requires-2
-expect-requires-2 c κs = eq-eqb _ _ (ap (λ r. r .place) (c .before .before .before .check .ensures ∙ c .before .before .before .before .before .pre))
-
-expect-requires-3 : tie.Need-expect-requires-3
-expect-requires-3 c κs = eq-eqb _ _ (ap (λ r. r .count) (c .before .before .before .before .before .check .ensures ∙ c .before .before .before .before .before .before .before .pre))
+expect-requires c κs =
+    let e = c .before .before .before .check .ensures ∙ c .before .before .before .before .before .pre in
+    both-and _ _ (both-and _ _ (eq-eqb _ _ (ap (λ r. r .number) e)) (eq-eqb _ _ (ap (λ r. r .place) e))) (eq-eqb _ _ (ap (λ r. r .count) e))
 
 pub expect-check-spec : {M : Type 1} → statement M
-expect-check-spec = tie.close (tie.spec (λ c κs. search needs) expect-requires expect-requires-2 expect-requires-3 (λ c. search needs))
+expect-check-spec = tie.close (tie.spec (λ c κs. search needs) expect-requires (λ c. search needs))

@@ -11,6 +11,4 @@ unfolding computing.bundles
 picks-spec = tie.close (tie.spec
     (λ c. refl) (λ c. refl) (λ c κs. refl)
     (λ c. refl) (λ c. refl) (λ c κs. refl)
-    (λ c. refl) (λ c. refl) (λ c κs. refl)
-    (λ c. refl) (λ c. refl) (λ c κs. refl)
     (λ c. search needs))

@@ -1,6 +1,6 @@
 -- `expect_form` meets its contract: the length of the canonical form, and what is left in the output, are what the definitions give.
 -- Assumes nothing.
-use mathlib.Core.Path.{ap, _∙_, sym}
+use mathlib.Core.Path.{ap, _∙_}
 use borrow.Author.Needs.{needs}
 use borrow.Author.Tests.{eq-eqb}
 use mathlib.Core.List.{_++_}

@@ -11,7 +11,4 @@ unfolding computing.words
 copies-spec = tie.close (tie.spec
     (λ c. refl) (λ c. refl) (λ c. refl) (λ c κs. refl)
     (λ c. refl) (λ c. refl) (λ c. refl) (λ c κs. refl)
-    (λ c. refl) (λ c. refl) (λ c. refl) (λ c κs. refl)
-    (λ c. refl) (λ c. refl) (λ c. refl) (λ c κs. refl)
-    (λ c. refl) (λ c. refl) (λ c. refl) (λ c κs. refl)
     (λ c. search needs))

@@ -1,6 +1,6 @@
 -- `expect_compared` meets its contract: each comparison is what the definition gives.
 -- Assumes nothing.
-use mathlib.Core.Path.{ap, _∙_, sym}
+use mathlib.Core.Path.{_∙_}
 use borrow.Author.Needs.{needs}
 use borrow.Author.Tests.{eq-eqb}
 use Rattle.selftest.proofs.Booleans.{eq-beq}

@@ -1,8 +1,7 @@
 -- `expect_copy` meets its contract: what a copy leaves in the output is what the definition gives.
 -- Assumes nothing.
-use mathlib.Core.Path.{ap, _∙_, sym}
+use mathlib.Core.Path.{_∙_}
 use borrow.Author.Needs.{needs}
-use borrow.Author.Tests.{eq-eqb}
 use Rattle.selftest.proofs.words.expect_copy.Statement.{statement}
 use Rattle.selftest.proofs.words.expect_copy.Tie as tie
 

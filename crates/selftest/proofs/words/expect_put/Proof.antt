@@ -1,8 +1,7 @@
 -- `expect_put` meets its contract: what a word written leaves in the output is what the definition gives.
 -- Assumes nothing.
-use mathlib.Core.Path.{ap, _∙_, sym}
+use mathlib.Core.Path.{_∙_}
 use borrow.Author.Needs.{needs}
-use borrow.Author.Tests.{eq-eqb}
 use Rattle.selftest.proofs.words.expect_put.Statement.{statement}
 use Rattle.selftest.proofs.words.expect_put.Tie as tie
 

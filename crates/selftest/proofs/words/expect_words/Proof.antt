@@ -1,6 +1,6 @@
 -- `expect_words` meets its contract: each word is what the definition gives.
 -- Assumes nothing.
-use mathlib.Core.Path.{ap, _∙_, sym}
+use mathlib.Core.Path.{_∙_}
 use borrow.Author.Needs.{needs}
 use borrow.Author.Tests.{eq-eqb}
 use Rattle.selftest.proofs.words.expect_words.Statement.{statement}

@@ -1,14 +1,14 @@
--- `no_bundles` meets its contract: the definitions give what each case expects, by computation.
+-- `no_ids` meets its contract: the definitions give what each case expects, by computation.
 -- Assumes nothing.
 use mathlib.Core.Path.{refl}
 use borrow.Author.Needs.{needs}
 use Rattle.selftest.proofs.Computing as computing
-use Rattle.selftest.proofs.bundle_writer.no_bundles.Statement.{statement}
-use Rattle.selftest.proofs.bundle_writer.no_bundles.Tie as tie
+use Rattle.selftest.proofs.bundle_writer.no_ids.Statement.{statement}
+use Rattle.selftest.proofs.bundle_writer.no_ids.Tie as tie
 
-pub no-bundles-spec : {M : Type 1} → statement M
+pub no-ids-spec : {M : Type 1} → statement M
 unfolding computing.bundles
-no-bundles-spec = tie.close (tie.spec
+no-ids-spec = tie.close (tie.spec
     (λ c. refl) (λ c. refl) (λ c. refl) (λ c. refl) (λ c κs. (refl, refl))
     (λ c. refl) (λ c. refl) (λ c. refl) (λ c. refl) (λ c κs. (refl, refl))
     (λ c. search needs))
