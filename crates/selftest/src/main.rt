@@ -1,59 +1,10 @@
-// The library's functions, run on small inputs. What each case expects is a theorem: `expect_..` asks that the definitions give it.
-// So what runs is held to the definitions: on the interpreter, and compiled in three ways.
-mod binaries;
-mod binary_writer;
-mod bundle_writer;
-mod bundles;
-mod ids;
+// The library, run: on the interpreter, and compiled in three ways (`rt try selftest`). So the compiler's back end, which no proof covers, is held to the definitions.
 mod large;
-mod words;
 
 fn main() {
-    words::words();
-    words::comparisons();
-    words::long_comparisons();
-    words::puts();
-    words::copies();
-    words::no_copies();
-    ids::host_forms();
-    ids::card_forms();
-    ids::field_forms();
-    ids::no_features();
-    ids::no_kinds();
-    ids::standings();
-    ids::more_standings();
-    bundles::heads();
-    bundles::tables();
-    bundles::ranges();
-    bundles::meanings();
-    bundles::picks();
-    bundles::more_picks();
-    bundles::not_asked();
-    bundles::not_found();
-    bundles::no_entries_normal();
-    bundles::host_normal();
-    bundles::normal_again();
-    bundles::cards_normal();
-    bundles::cards_again();
-    binaries::read_on();
-    binaries::ends();
-    binaries::bare();
-    binaries::heads();
-    binaries::spans();
-    binaries::bodies();
-    bundle_writer::written();
-    bundle_writer::written_before();
-    bundle_writer::no_room();
-    bundle_writer::no_ids();
-    bundle_writer::no_entries();
-    bundle_writer::no_bundle();
-    binary_writer::written();
-    binary_writer::written_before();
-    binary_writer::no_room();
-    binary_writer::not_written();
-    binary_writer::bare();
-    binary_writer::with_arch();
-    binary_writer::too_many();
+    selftest_ids::run();
+    selftest_bundles::run();
+    selftest_binaries::run();
     large::long_copy();
     large::sixty_four();
     large::real_bundle();
