@@ -6,6 +6,7 @@ use Rattle.wire.specs.Stop.{_⨾_, stopWhen, stopIf, stopAt, earlier}
 use Rattle.bundle.specs.Table.{magic, count, rowStart, rowAt, row, tableEnd}
 use Rattle.bundle.specs.Check.{badRow, outside, headStop, tableStop, unrefused, badId, meanSame, mix, rowsStop, bundleStop, check}
 use Rattle.bundle.specs.Pick.{compatibleAt, chosen, pickStop, pick}
+use Rattle.bundle.specs.EntryAt.{entryStop, entryAt}
 use Rattle.bundle.specs.Entry.{imageOf, entryOf, entriesOf}
 use Rattle.bundle.specs.Layout.{rowBytes, table, bundle, packedEnd, packedLength, images, packed, encode}
 use Rattle.bundle.specs.Normal.{roomStop, answer, over, output, normal, normalLength, normaliseStop, normalise, normalised}
@@ -13,7 +14,7 @@ use Rattle.bundle.specs.Records.{recordAt, rowOf, rowsOf, badPart, recordsStop}
 use Rattle.bundle.specs.Writer.{writeStop, write, writtenTo}
 use Rattle.selftest_ids.proofs.Computing.{ids}
 
--- the check, the pick and the normal form of a bundle
+-- the check, the pick, entries and the normal form of a bundle
 unfoldable pub bundles : Unit {0}
-unfolding ids total tab first anyBelow _⨾_ stopWhen stopIf stopAt earlier magic count rowStart rowAt row tableEnd badRow outside headStop tableStop unrefused badId meanSame mix rowsStop bundleStop check compatibleAt chosen pickStop pick imageOf entryOf entriesOf rowBytes table bundle packedEnd packedLength images packed encode roomStop answer over output normal normalLength normaliseStop normalise normalised recordAt rowOf rowsOf badPart recordsStop writeStop write writtenTo
+unfolding ids total tab first anyBelow _⨾_ stopWhen stopIf stopAt earlier magic count rowStart rowAt row tableEnd badRow outside headStop tableStop unrefused badId meanSame mix rowsStop bundleStop check compatibleAt chosen pickStop pick entryStop entryAt imageOf entryOf entriesOf rowBytes table bundle packedEnd packedLength images packed encode roomStop answer over output normal normalLength normaliseStop normalise normalised recordAt rowOf rowsOf badPart recordsStop writeStop write writtenTo
 bundles = tt

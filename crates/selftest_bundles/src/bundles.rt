@@ -4,6 +4,7 @@ ghost use lib.ListN.{length};
 ghost use Rattle.entry_id.specs.Rules.{idRules};
 ghost use Rattle.bundle.specs.Check.{check};
 ghost use Rattle.bundle.specs.Pick.{pick};
+ghost use Rattle.bundle.specs.EntryAt.{entryAt};
 ghost use Rattle.bundle.specs.Normal.{normalise, normalised};
 
 // "Magic and eight zero bytes"
@@ -217,6 +218,41 @@ pub(crate) fn not_found() {
         0,
         0,
     );
+}
+
+fn expect_entry(
+    bundle: &[u8],
+    index: usize,
+    number: usize,
+    position: u64,
+    size: u64,
+    id_position: usize,
+    id_length: usize,
+)
+    requires { ⌜ entryAt idRules (now bundle) index ≡ record { number = number; place = 0; position = position; size = size; «id_position» = «id_position»; «id_length» = «id_length» } ⌝ }
+{
+    let r = bundle_reader::entry(bundle, index);
+    check::expect(
+        (r.number == number)
+            & (r.place == 0)
+            & (r.position == position)
+            & (r.size == size)
+            & (r.id_position == id_position)
+            & (r.id_length == id_length),
+    );
+}
+
+// Entries by their index; past the last, NONE.
+pub(crate) fn entries() {
+    expect_entry(&TWO_CARDS, 1, 0, 156, 2, 115, 35);
+    expect_entry(&TWO_CARDS, 2, 10, 0, 0, 0, 0);
+    expect_entry(&HOST_SPELLED, 18446744073709551615, 10, 0, 0, 0, 0);
+}
+
+// Refusals of the check.
+pub(crate) fn no_entries() {
+    expect_entry(b"", 0, 2, 0, 0, 0, 0);
+    expect_entry(b"__CLANG_OFFLOAD_BUNDLE__", 0, 3, 0, 0, 0, 0);
 }
 
 // What normalising into `out` returns, and what it leaves there.

@@ -12,6 +12,8 @@ pub fn run() {
     bundles::more_picks();
     bundles::not_asked();
     bundles::not_found();
+    bundles::entries();
+    bundles::no_entries();
     bundles::no_entries_normal();
     bundles::host_normal();
     bundles::normal_again();
