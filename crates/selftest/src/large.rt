@@ -1,5 +1,4 @@
 // Inputs that are too large to compute on in the prover: what the library answers is printed, and held to the file `stdout`.
-
 ghost use Prim.Native.Nat.{_<_};
 use offload_binary::Part;
 
@@ -51,7 +50,7 @@ fn print_normal(bundle: &[u8], out: &mut [u8]) -> usize {
     r.length
 }
 
-// Entry i of 64, in falling order of their IDs: `host-a-b-c63` to `host-a-b-c00`, each with an image of one byte.
+// Entry i of 64, in falling order of their IDs: `host-a-b-c63` to `host-a-b-c00`, each with an image of one byte, the last of its ID.
 fn put_entry(out: &mut [u8], i: usize)
     requires { ⌜ i < 64 ⌝ }
 {
@@ -59,10 +58,12 @@ fn put_entry(out: &mut [u8], i: usize)
     let image = 2336 + i;
     let left = 63 - i;
     let digits = [b'0' + (left / 10) as u8, b'0' + (left % 10) as u8];
+    wire_copy::copy_at(
+        out,
+        at,
+        b"\0\0\0\0\0\0\0\0\x01\0\0\0\0\0\0\0\x0c\0\0\0\0\0\0\0host-a-b-c",
+    );
     wire_write::put_word8(out, at, image as u64);
-    wire_write::put_word8(out, at + 8, 1);
-    wire_write::put_word8(out, at + 16, 12);
-    wire_copy::copy_at(out, at + 24, b"host-a-b-c");
     wire_copy::copy_at(out, at + 34, &digits);
     wire_copy::copy_at(out, image, &digits[1..]);
 }
