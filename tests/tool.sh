@@ -11,46 +11,8 @@ folder=$(mktemp -d)
 trap 'rm -rf "$folder"' EXIT
 mkdir "$folder/some files"
 cd "$folder/some files" || exit 1
-exec </dev/null
-tried=0
-wrong=0
-
-fail() {
-  printf 'wrong: %s\n' "$1"
-  wrong=1
-}
-
-# expect STATUS OUTPUT ERROR WORD..: what the tool answers. OUTPUT and ERROR are patterns for the whole text.
-expect() {
-  local status=$1 output=$2 error=$3 got
-  shift 3
-  timeout 60 "$offload" "$@" >../output 2>../error
-  got=$?
-  tried=$((tried + 1))
-  [ "$got" = "$status" ] || fail "offload $*: status $got and not $status"
-  # shellcheck disable=SC2053
-  [[ $(<../output) == $output ]] || fail "offload $*: output: $(<../output)"
-  # shellcheck disable=SC2053
-  [[ $(<../error) == $error ]] || fail "offload $*: error: $(<../error)"
-}
-
-same() {
-  tried=$((tried + 1))
-  cmp "$1" "$2" || fail "$1 is not $2"
-}
-
-# is WHAT GOT WANTED
-is() {
-  tried=$((tried + 1))
-  [ "$2" = "$3" ] || fail "$1: $2 and not $3"
-}
-
-# The folder holds these files and no other.
-holds() {
-  local files
-  files=$(ls -A)
-  is 'the folder holds' "${files//$'\n'/ }" "$*"
-}
+# shellcheck source=tests/answers.sh
+. "$top/tests/answers.sh"
 
 # The number as 8 bytes.
 word() {
