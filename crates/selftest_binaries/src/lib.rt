@@ -10,6 +10,7 @@ pub fn run() {
     binaries::heads();
     binaries::spans();
     binaries::bodies();
+    binaries::seconds();
     binary_writer::written();
     binary_writer::written_before();
     binary_writer::no_room();
