@@ -153,7 +153,7 @@ pub(crate) fn spans() {
 
 // STRINGS and IMAGE.
 pub(crate) fn bodies() {
-    // equal keys, which are empty
+    // empty keys
     expect_stop(
         b"\x10\xff\x10\xad\x01\0\0\0\x68\0\0\0\0\0\0\0\x20\0\0\0\0\0\0\0\x28\0\0\0\0\0\0\0\
         \0\0\0\0\0\0\0\0\x48\0\0\0\0\0\0\0\x02\0\0\0\0\0\0\0\x68\0\0\0\0\0\0\0\0\0\0\0\0\0\0\0\

@@ -1,4 +1,5 @@
-// Cases of `selftest`: offload binaries, on small inputs. What a case expects is a theorem: `expect_..` asks that the definitions give it, and holds what runs to it.
+// Cases of `selftest`: offload binaries, on small inputs.
+// What a case expects is a theorem: `expect_..` asks that the definitions give it, and holds what runs to it.
 mod binaries;
 mod binary_writer;
 
