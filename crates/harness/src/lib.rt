@@ -82,8 +82,7 @@ pub extern "C" fn offload_write_binary_field(
 fn read_next(bytes: &[u8], cursor: Cursor) -> Step
     ensures { λ r. ⌜ r ≡ next (now (bytes .entry)) cursor ⌝ }
 {
-    let mut reader = Reader::open(bytes);
-    reader.cursor = cursor;
+    let mut reader = Reader { bytes, cursor };
     let answer = reader.next();
     Step {
         answer,

@@ -1,4 +1,5 @@
-// The library, run: on the interpreter, and compiled in three ways (`rt try selftest`). So the compiler's back end, which no proof covers, is held to the definitions.
+// The library, run: `rt try selftest` runs this on the interpreter and compiled in three ways, so that the compiler's back end, which no proof covers,
+// is held to the definitions. A case is a call of an `expect_..` in the library of its subject; its proof is one line, by computation.
 mod large;
 
 fn main() {

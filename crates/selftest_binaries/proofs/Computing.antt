@@ -14,5 +14,5 @@ use Rattle.selftest_ids.proofs.Computing.{words}
 
 -- offload binaries, by the reader and by the writer
 unfoldable pub binaries : Unit {0}
-unfolding words empty total tab first anyBelow _⨾_ stopWhen stopIf stopAt earlier slots binary.bytesAt binary.run binary.ended binary.sizeOf binary.entryAt binary.own binary.entryOf binary.keyAt binary.textAt binary.stringAt binary.pair binary.key binary.badHead binary.badSpan binary.badKinds binary.badTable binary.badString binary.badPair binary.badStrings binary.badImage binary.bodyStop binary.binaryStop binary.keyIn binary.badKeys binary.handsBack binary.binary binary.binaryAt contents.keyText contents.contents contents.fieldBytes contents.texts contents.stringBytes contents.offsets contents.up8 contents.zeros contents.stringsStart contents.stringsEnd contents.imageStart contents.imageEnd contents.binarySize contents.headFields contents.written contents.keyOf contents.badText contents.badKeyTexts contents.tooBig reader.past reader.nextStop reader.next writer.badPart writer.badPair writer.badPairs writer.given writer.writeStop writer.listed writer.write stepNumbers
+unfolding words empty total tab first anyBelow _⨾_ stopWhen stopIf stopAt earlier slots binary.bytesAt binary.run binary.ended binary.sizeOf binary.entryAt binary.own binary.entryOf binary.keyAt binary.textAt binary.stringAt binary.pair binary.key binary.badHead binary.badSpan binary.badKinds binary.badTable binary.badString binary.badPair binary.badStrings binary.badImage binary.bodyStop binary.binaryStop binary.keyIn binary.badKeys binary.handsBack binary.binary binary.binaryAt contents.keyText contents.contents contents.fieldBytes contents.texts contents.stringBytes contents.offsets contents.up8 contents.zeros contents.stringsStart contents.stringsEnd contents.imageStart contents.imageEnd contents.binarySize contents.headFields contents.written contents.keyOf contents.badText contents.badKeyTexts contents.tooBig reader.past reader.nextStop reader.next reader.cursorAfter reader.answer writer.badPart writer.badPair writer.badPairs writer.given writer.writeStop writer.listed writer.write stepNumbers
 binaries = tt

@@ -2,8 +2,10 @@
 ghost use mathlib.Core.Path.{_≡_};
 ghost use mathlib.Core.List.{[], _∷_};
 ghost use Prim.Native.Nat.{_%_};
-ghost use Rattle.offload_binary.specs.Reader.{next};
+ghost use Rattle.offload_binary.specs.Reader.{next, answer};
 ghost use Rattle.harness.specs.Fields.{stepNumbers};
+use offload_binaries::Reader;
+use offload_binary::Answer;
 
 // samples/binaries/small.bin, by LLVM.
 const SMALL: [u8; 288] =
@@ -151,7 +153,7 @@ pub(crate) fn spans() {
 
 // STRINGS and IMAGE.
 pub(crate) fn bodies() {
-    // equal keys, which are empty
+    // empty keys
     expect_stop(
         b"\x10\xff\x10\xad\x01\0\0\0\x68\0\0\0\0\0\0\0\x20\0\0\0\0\0\0\0\x28\0\0\0\0\0\0\0\
         \0\0\0\0\0\0\0\0\x48\0\0\0\0\0\0\0\x02\0\0\0\0\0\0\0\x68\0\0\0\0\0\0\0\0\0\0\0\0\0\0\0\
@@ -176,4 +178,30 @@ pub(crate) fn bodies() {
         0,
         17,
     );
+}
+
+// What a reader that was opened answers when it is asked a second time.
+fn second_answer(bytes: &[u8]) -> Answer
+    ensures { λ r. ⌜ r ≡ answer (now (bytes .entry)) 1 ⌝ }
+{
+    let mut reader = Reader::open(bytes);
+    reader.next();
+    reader.next()
+}
+
+// Number and place of the second answer; first byte and size of its binary.
+fn expect_second(bytes: &[u8], number: usize, place: usize, start: usize, size: usize)
+    requires { ⌜ (answer (now bytes) 1 .number ≡ number) × (answer (now bytes) 1 .place ≡ place) × (answer (now bytes) 1 .binary .start ≡ start) × (answer (now bytes) 1 .binary .size ≡ size) ⌝ }
+{
+    let r = second_answer(bytes);
+    let binary = r.binary;
+    check::expect((r.number == number) & (r.place == place));
+    check::expect((binary.start == start) & (binary.size == size));
+}
+
+// The second of two; END after one; END, asked again.
+pub(crate) fn seconds() {
+    expect_second(&SMALL, 0, 0, 144, 144);
+    expect_second(&BARE, 19, 72, 0, 0);
+    expect_second(b"", 19, 0, 0, 0);
 }

@@ -163,6 +163,27 @@ pub(crate) fn not_written() {
     );
 }
 
+// The same of the first n pairs of an array that starts with this one.
+fn expect_array(
+    x: StringPair,
+    n: usize,
+    tags: Tags,
+    image: &[u8],
+    strings: &[u8],
+    out: &mut [u8],
+    number: usize,
+    written: usize,
+    after: &[u8],
+)
+    requires { ⌜ write tags (now image) (listed (set (slots 32 noPair []) 0 x) n) (now strings) (now out) ≡ record { answer = record { number = number; place = 0; len = written }; out = now after } ⌝ }
+{
+    let mut pairs = offload_binary_parts::no_pairs();
+    pairs[0] = x;
+    let r = offload_binary_writer::write_array(tags, image, pairs, n, strings, out);
+    check::expect((r.number == number) & (r.place == 0) & (r.len == written));
+    check::expect(check::same(out, after));
+}
+
 // "Binary with no strings and no image: 72 bytes."
 pub(crate) fn bare() {
     expect_array(
@@ -210,25 +231,4 @@ pub(crate) fn too_many() {
         0,
         b".",
     );
-}
-
-// The same of the first n pairs of an array that starts with this one,
-fn expect_array(
-    x: StringPair,
-    n: usize,
-    tags: Tags,
-    image: &[u8],
-    strings: &[u8],
-    out: &mut [u8],
-    number: usize,
-    written: usize,
-    after: &[u8],
-)
-    requires { ⌜ write tags (now image) (listed (set (slots 32 noPair []) 0 x) n) (now strings) (now out) ≡ record { answer = record { number = number; place = 0; len = written }; out = now after } ⌝ }
-{
-    let mut pairs = offload_binary_parts::no_pairs();
-    pairs[0] = x;
-    let r = offload_binary_writer::write_array(tags, image, pairs, n, strings, out);
-    check::expect((r.number == number) & (r.place == 0) & (r.len == written));
-    check::expect(check::same(out, after));
 }

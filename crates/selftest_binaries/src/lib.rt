@@ -1,4 +1,5 @@
-// Cases of `selftest`: offload binaries, on small inputs. What a case expects is a theorem: `expect_..` asks that the definitions give it, and holds what runs to it.
+// Cases of `selftest`: offload binaries, on small inputs.
+// What a case expects is a theorem: `expect_..` asks that the definitions give it, and holds what runs to it.
 mod binaries;
 mod binary_writer;
 
@@ -10,6 +11,7 @@ pub fn run() {
     binaries::heads();
     binaries::spans();
     binaries::bodies();
+    binaries::seconds();
     binary_writer::written();
     binary_writer::written_before();
     binary_writer::no_room();

@@ -1,4 +1,5 @@
-// Cases of `selftest`: bundles, on small inputs. What a case expects is a theorem: `expect_..` asks that the definitions give it, and holds what runs to it.
+// Cases of `selftest`: bundles, on small inputs.
+// What a case expects is a theorem: `expect_..` asks that the definitions give it, and holds what runs to it.
 mod bundle_writer;
 mod bundles;
 

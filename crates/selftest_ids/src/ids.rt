@@ -45,16 +45,14 @@ pub(crate) fn card_forms() {
     );
 }
 
-// Four fields, and six: an environment that would read back as a processor.
+// Six fields, of which five would read back as others; four fields.
 pub(crate) fn field_forms() {
-    // an environment that would read back as a processor
     expect_form(
         b"openmp-a-b-c-gfxenv-",
         &mut [b'.'; 24],
         20,
         b"openmp-a-b-c-gfxenv-....",
     );
-    // four fields; a kind that is none; a name stated twice; a prefix first
     expect_form(b"hipv4-a-b-c", &mut [b'.'; 13], 13, b"hipv4-a-b-c--");
 }
 

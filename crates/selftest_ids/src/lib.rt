@@ -1,4 +1,5 @@
-// Cases of `selftest`: bytes and entry IDs, on small inputs. What a case expects is a theorem: `expect_..` asks that the definitions give it, and holds what runs to it.
+// Cases of `selftest`: bytes and entry IDs, on small inputs.
+// What a case expects is a theorem: `expect_..` asks that the definitions give it, and holds what runs to it.
 mod ids;
 mod words;
 
