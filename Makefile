@@ -31,7 +31,7 @@ CARGO := cargo --quiet
 SECOND := --offline --manifest-path second/Cargo.toml
 
 .PHONY: demo test install uninstall clean help tool library harness prove tools
-.PHONY: calls stack compare second-test tool-test example install-test build-test gate-test damage bench
+.PHONY: selftest calls stack compare second-test tool-test example install-test build-test gate-test damage bench
 
 ## For use
 ##   make               the tool, and the library that it needs
@@ -94,6 +94,12 @@ stack: target/stack
 ##   make compare       the library against the second program: the same rules, written a second time
 compare: tools $(LIBRARY) $(HARNESS)
 	$(CARGO) run --release $(SECOND) --bin compare
+
+##   make selftest      the library as the interpreter and the compiler run it, in four ways
+selftest:
+	@scripts/need.sh rt
+	cmp crates/selftest/stdin samples/bundles/five-fields.bundle
+	rt try selftest
 
 ##   make second-test   the second program's own tests
 second-test: tools

@@ -52,7 +52,7 @@ grep -q '^  3 of 3: harness proved (1 s)$' said
 grep -q '^  1 of 1 edits: one/wrong: refused' said
 grep -qx 'calls: passed ([0-9]* s)' said
 expect 1 '16 passed, 1 failed' fmt
-expect 1 '16 passed, 1 failed' try
+expect 1 '16 passed, 1 failed' 'make selftest'
 expect 1 '16 passed, 1 failed' 'make second-test'
 expect 1 '16 passed, 1 failed' 'make damage'
 expect 1 '16 passed, 1 failed' 'kill calls'

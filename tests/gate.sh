@@ -32,9 +32,7 @@ make_parts() {
 }
 
 without_proof() {
-  make_parts second-test
-  part selftest nice -n 5 rt try selftest
-  make_parts gate-test
+  make_parts second-test selftest gate-test
 }
 
 # Waits until `rt ci` has proved a crate; 1 where it ended without.

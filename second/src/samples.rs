@@ -207,6 +207,24 @@ pub const BINARIES: &[BinariesSample] = &[
             },
         ],
     },
+    BinariesSample {
+        name: "small",
+        bytes: sample!("binaries/small.bin"),
+        binaries: &[
+            BinarySample {
+                image_kind: 0,
+                offload_kind: 3,
+                image: b"",
+                pairs: &[("triple", "amdgcn-amd-amdhsa"), ("arch", "gfx906")],
+            },
+            BinarySample {
+                image_kind: 0,
+                offload_kind: 2,
+                image: b"",
+                pairs: &[("triple", "nvptx64-nvidia-cuda"), ("arch", "sm_70")],
+            },
+        ],
+    },
 ];
 
 #[cfg(test)]
