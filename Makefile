@@ -1,115 +1,185 @@
-# `make test` is the gate: its exit status and its last line, `N passed, M failed`, are the verdict.
+# Builds, tests and installs. `make help` prints the lines here that start with two hashes.
 
 SHELL := /bin/bash
 .SHELLFLAGS := -eu -o pipefail -c
+.DEFAULT_GOAL := tool
+.DELETE_ON_ERROR:
+MAKEFLAGS += --no-builtin-rules --no-print-directory
 
+# These count where they are given, on the command line or in the environment.
+ifeq ($(origin CC),default)
+CC := gcc
+endif
+ifeq ($(origin CXX),default)
+CXX := g++
+endif
+CFLAGS ?= -O2
+CXXFLAGS ?= -O2
+WARNINGS ?= -Wall -Wextra -Werror -pedantic
+PREFIX ?= /usr/local
+DESTDIR ?=
+DAMAGED := 2000
+LLVM := llvm
+
+HEADER := include/offload.h
+TOOL := target/offload
+VERSION := $(shell sed -n 's/^\#define OFFLOAD_VERSION "\([0-9.]*\)".*/\1/p' $(HEADER))
+LIBRARY := target/staticlib/liboffload.a
+HARNESS := target/staticlib/libharness.a
+BINARIES := target/staticlib/liboffload_binaries_bench.a
 CARGO := cargo --quiet
 SECOND := --offline --manifest-path second/Cargo.toml
-LIBRARY := target/staticlib/liboffload.a
-STRICT := -Wall -Wextra -Werror -pedantic -Iinclude
-POSIX := gcc -std=c99 -D_POSIX_C_SOURCE=200809L -O2 $(STRICT)
-VERSION := 0.1.0
-TOOL := target/offload
-PREFIX := /usr/local
-LLVM := llvm
-DAMAGED := 2000
 
-.PHONY: test proved-test demo prove library harness calls stack compare second-test tool tool-test example install install-test damage bench compiler tools
+.PHONY: demo test install uninstall clean help tool library harness prove tools
+.PHONY: selftest calls stack compare second-test tool-test example install-test build-test gate-test damage bench
 
-# The gate. Its parts run side by side: tests/gate.sh.
-test: tools
-	rt fmt --check
-	tests/gate.sh
+## For use
+##   make               the tool, and the library that it needs
 
-# What the gate runs on the proved library.
-proved-test: harness
-	$(MAKE) --no-print-directory -j2 -O -o library -o harness calls stack compare tool-test example install-test damage DAMAGED=500 LLVM=
-
-# What the tool does with a real bundle.
-demo: tool
+##   make demo          what the tool does with a real bundle
+demo: $(TOOL)
 	@examples/demo.sh $(TOOL)
 
-# The proofs alone.
+##   make test          the gate: every proof and every test; the last line is the verdict
+test:
+	@tests/gate.sh
+
+##   make install       header, library, tool, manual page, and what pkg-config and CMake need, below PREFIX (/usr/local) of DESTDIR
+install: $(TOOL)
+	@PREFIX=$(call quoted,$(PREFIX)) DESTDIR=$(call quoted,$(DESTDIR)) scripts/install.sh install $(VERSION)
+
+##   make uninstall     removes what `make install` put there
+uninstall:
+	@PREFIX=$(call quoted,$(PREFIX)) DESTDIR=$(call quoted,$(DESTDIR)) scripts/install.sh uninstall $(VERSION)
+
+##   make clean         removes all that was made here
+clean:
+	rm -rf target second/target bench/target
+
+##   make help          these lines
+help:
+	@sed -n 's/^##\( \|$$\)//p' Makefile
+
+##
+## Parts
+##   make tool          target/offload
+tool: $(TOOL)
+
+##   make library       target/staticlib/liboffload.a, for C and C++ over include/offload.h
+library: $(LIBRARY)
+
+##   make harness       the reader and the writers as C calls, which the header has not: for the comparison
+harness: $(HARNESS)
+
+##   make prove         the proofs alone
 prove:
-	rt check
+	@scripts/need.sh rt
+	@scripts/prove.sh
 
-# The static library of the proved crates, for C, C++ and Rust.
-library: compiler
-	mkdir -p target
-	$(call archive,offload)
+##   make tools         installs, as root, what the tests need beside the Rattle kit; otherwise says what is missing
+tools:
+	@scripts/need.sh rt $(firstword $(CC)) $(firstword $(CXX)) cargo cmake pkg-config
 
-archive = @echo 'The library $(1): proved where it is not yet, and compiled (some minutes the first time; target/staticlib.out)'; rt staticlib $(1) >target/staticlib.out 2>&1 || { cat target/staticlib.out; exit 1; }
-
-# The reader and the writers as C calls, which the header has not.
-harness: library
-	$(call archive,harness)
-
-# The header and the library, from C99 and from C++.
-calls: library
-	gcc -std=c99 $(STRICT) -o target/calls-c tests/calls.c $(LIBRARY)
+##
+## Tests, each a part of the gate
+##   make calls         header and library, from C99 and from C++
+calls: tools target/calls-c target/calls-cpp
 	target/calls-c
-	g++ -x c++ $(STRICT) -o target/calls-cpp tests/calls.c -x none $(LIBRARY)
 	target/calls-cpp
 
-# The stack that each call takes.
-stack: library
-	$(POSIX) -pthread -o target/stack tests/stack.c $(LIBRARY)
-	target/stack samples/bundles/three-cards.bundle
+##   make stack         the stack that each call takes
+stack: target/stack
+	target/stack
 
-# The library against the second program: the same rules, written a second time.
-compare: harness
-	$(CARGO) build --release $(SECOND)
-	second/target/release/compare
+##   make compare       the library against the second program: the same rules, written a second time
+compare: tools $(LIBRARY) $(HARNESS)
+	$(CARGO) run --release $(SECOND) --bin compare
 
-# The second program's own tests.
-second-test:
+##   make selftest      the library as the interpreter and the compiler run it, in four ways
+selftest:
+	@scripts/need.sh rt
+	cmp crates/selftest/stdin samples/bundles/five-fields.bundle
+	rt try selftest
+
+##   make second-test   the second program's own tests
+second-test: tools
 	$(CARGO) test $(SECOND) --lib
 
-# The tool, and a test that uses it as a person would.
-tool: library
-	$(POSIX) -DOFFLOAD_VERSION='"$(VERSION)"' -o $(TOOL) tool/*.c $(LIBRARY)
-
-tool-test: tool
+##   make tool-test     the tool, used as a person would
+tool-test: $(TOOL)
 	tests/tool.sh $(TOOL)
+	tests/files.sh $(TOOL)
 
-# The smallest loader.
-example: library
-	$(POSIX) -o target/loader examples/loader.c $(LIBRARY)
+##   make example       the smallest loader
+example: target/loader
 	tests/loader.sh target/loader
 
-# Header, library, tool and offload.pc, under PREFIX.
-install: tool
-	install -D -m 644 -t $(DESTDIR)$(abspath $(PREFIX))/include include/offload.h
-	install -D -m 644 -t $(DESTDIR)$(abspath $(PREFIX))/lib $(LIBRARY)
-	install -D -m 755 -t $(DESTDIR)$(abspath $(PREFIX))/bin $(TOOL)
-	install -d $(DESTDIR)$(abspath $(PREFIX))/lib/pkgconfig
-	sed 's|@PREFIX@|$(abspath $(PREFIX))|; s|@VERSION@|$(VERSION)|' tool/offload.pc.in >$(DESTDIR)$(abspath $(PREFIX))/lib/pkgconfig/offload.pc
+##   make install-test  the example, built over what `make install` puts in place
+install-test: tools $(TOOL)
+	tests/install.sh
 
-# The example, built against what `make install` puts in place.
-install-test: tool
-	rm -rf target/installed
-	$(MAKE) --no-print-directory -o library -o tool install PREFIX=$(CURDIR)/target/installed
-	tests/install.sh target/installed
+##   make build-test    this file: what it builds, when, and where
+build-test: $(LIBRARY)
+	tests/build.sh
 
-# Damaged copies of the samples, given to the tool and to LLVM's tools: how often each answers, refuses, crashes, hangs.
-damage: tool
+##   make gate-test     the gate's verdict, whatever goes wrong
+gate-test:
+	tests/gate-test.sh
+
+##   make damage        DAMAGED (2000) damaged files, given to the tool and to LLVM's tools: how often each answers, refuses, crashes, hangs
+damage: $(TOOL) target/make-damage
 	rm -rf target/damage
 	mkdir -p target/damage
-	$(POSIX) -o target/make-damage tests/damage.c
 	target/make-damage $(DAMAGED) target/damage samples/bundles/* samples/binaries/*
 	timeout 1800 tests/damage.sh $(TOOL) target/damage $(LLVM)
 
-# The library's speed beside that of the second program, plain C, memcpy, LLVM's tools and, with llvm-19-dev, LLVM's library.
-bench: tool
-	$(call archive,offload_binaries_bench)
-	$(CARGO) build --release --offline --manifest-path bench/Cargo.toml
-	bench/target/release/bench $(TOOL) target/bench | tee target/bench.md
+##
+## Speed
+##   make bench         speed beside that of the second program, plain C, memcpy, LLVM's tools and, with llvm-19-dev, LLVM's library
+bench: tools $(TOOL) $(BINARIES)
+	$(CARGO) run --release --offline --manifest-path bench/Cargo.toml -- $(TOOL) target/bench | tee target/bench.md
 
-# What is needed beside the Rattle kit: for the tool, and for `make test`.
-need = for program in $(1); do command -v $$program >/dev/null || { apt-get update -qq; apt-get install -y -qq $(1); break; }; done
+##
+## Settings, as in `make tool CC=clang`: CC CXX CPPFLAGS CFLAGS CXXFLAGS LDFLAGS LDLIBS WARNINGS PREFIX DESTDIR
 
-compiler:
-	@$(call need,gcc)
+# One word of the shell, whatever it holds.
+quoted = '$(subst ','\'',$(1))'
 
-tools:
-	@$(call need,cargo gcc g++ pkg-config)
+# What a library is made of: the files of its crates, and the folders, which change when a file goes.
+sources = crates.txt $(shell find $$(scripts/crates.sh $(1) | sed 's|.*|crates/&/src crates/&/specs crates/&/proofs|') 2>&1 | grep -v '^find:')
+
+$(LIBRARY): $(call sources,offload)
+$(HARNESS): $(call sources,harness)
+$(BINARIES): $(call sources,offload_binaries_bench)
+# A program is compiled later, and its compiler must not turn out to be missing then.
+target/staticlib/lib%.a:
+	@scripts/need.sh rt $(firstword $(CC))
+	@scripts/prove.sh $*
+
+# What was compiled by another compiler, or with other flags, is compiled again.
+FLAGS := $(CC) $(CXX) $(WARNINGS) $(CPPFLAGS) $(CFLAGS) $(CXXFLAGS) $(LDFLAGS) $(LDLIBS)
+ifneq ($(file <target/flags),$(FLAGS))
+.PHONY: target/flags
+endif
+target/flags:
+	@mkdir -p target
+	@printf '%s\n' $(call quoted,$(FLAGS)) >$@
+
+$(TOOL): $(wildcard tool/*.c) $(wildcard tool/*.h)
+target/loader: examples/loader.c
+target/stack: tests/stack.c
+target/calls-c: tests/calls.c
+target/calls-cpp: tests/calls.c
+$(TOOL) target/loader target/stack target/calls-c target/calls-cpp: $(HEADER) $(LIBRARY) target/flags
+target/make-damage: tests/damage.c target/flags
+
+$(TOOL) target/loader target/stack target/make-damage: C99 += -D_POSIX_C_SOURCE=200809L
+target/stack: C99 += -pthread
+C99 = $(CC) -std=c99 -Iinclude $(WARNINGS) $(CPPFLAGS) $(CFLAGS) $(LDFLAGS)
+$(TOOL) target/loader target/stack target/calls-c target/make-damage:
+	@scripts/need.sh $(firstword $(CC))
+	$(C99) -o $@ $(filter %.c %.a,$^) $(LDLIBS)
+
+target/calls-cpp:
+	@scripts/need.sh $(firstword $(CXX))
+	$(CXX) -Iinclude $(WARNINGS) $(CPPFLAGS) $(CXXFLAGS) $(LDFLAGS) -o $@ -x c++ $(filter %.c,$^) -x none $(filter %.a,$^) $(LDLIBS)

@@ -355,6 +355,18 @@ struct picked baseline_pick(const uint8_t *bytes, size_t length, const uint8_t *
     return (struct picked){NONE, 0, 0, 0, 0};
 }
 
+struct located baseline_entry(const uint8_t *bytes, size_t length, uint64_t index) {
+    struct bundle bundle;
+    struct refusal refusal = read_bundle(bytes, length, &bundle);
+    const struct entry *entry;
+    if (refusal.number != OK)
+        return (struct located){refusal.number, refusal.place, 0, 0, 0, 0};
+    if (index >= bundle.count)
+        return (struct located){NONE, 0, 0, 0, 0, 0};
+    entry = &bundle.entries[index];
+    return (struct located){OK, 0, entry->offset, entry->size, (uint64_t)(entry->id - bytes), entry->id_length};
+}
+
 static int before(const struct id *a, const struct id *b) {
     int order = memcmp(a->text, b->text, a->length < b->length ? a->length : b->length);
     return order != 0 ? order < 0 : a->length < b->length;

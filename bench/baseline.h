@@ -1,4 +1,4 @@
-/* The rules of document 01 in plain C, written to be fast: what the library's speed is held against. Not proved. */
+/* The rules of docs/RULES.md in plain C, written to be fast: what the library's speed is compared with. Not proved. */
 #ifndef BASELINE_H
 #define BASELINE_H
 
@@ -13,12 +13,17 @@ struct picked {
     uint64_t number, place, index, position, size;
 };
 
+struct located {
+    uint64_t number, place, position, size, id_position, id_length;
+};
+
 struct written {
     uint64_t number, place, length;
 };
 
 struct checked baseline_check(const uint8_t *bundle, size_t length);
 struct picked baseline_pick(const uint8_t *bundle, size_t length, const uint8_t *device, size_t device_length);
+struct located baseline_entry(const uint8_t *bundle, size_t length, uint64_t index);
 struct written baseline_normalise(const uint8_t *bundle, size_t length, uint8_t *out, size_t room);
 
 enum { PAIRS = 32 };

@@ -1,26 +1,35 @@
 #!/usr/bin/env bash
 # Shows what the tool does with a real bundle: examples/demo.sh OFFLOAD
 set -eu
-offload=$1
-bundle=samples/bundles/three-cards.bundle
+offload=$(realpath "$1")
 cd "$(dirname "$0")/.."
+bundle=samples/bundles/three-cards.bundle
 work=$(mktemp -d)
 trap 'rm -rf "$work"' EXIT
 
-echo "$bundle, made by clang-offload-bundler: $("$offload" check "$bundle")"
-echo
+# Prints a command, and what the tool answers.
+show() {
+  echo "\$ offload $*"
+  "$offload" "$@"
+}
 
-# A line for each device: what the tool says on standard output, or its refusal by number and name.
-row='%-46s %5s %9s %6s\n'
-# shellcheck disable=SC2059
-printf "$row" device entry position size
+echo "$bundle was made by clang-offload-bundler. What is in it?"
+echo
+show list "$bundle"
+
+echo
+echo 'Which image does a card get? A line for each device name: the answer, or what the exit status says.'
+echo
 while read -r device; do
-  if "$offload" pick "$bundle" "$device" >"$work/answer" 2>"$work/refusal"; then
-    # shellcheck disable=SC2059
-    sed 's/[^0-9 ]//g' "$work/answer" | { read -r entry position size; printf "$row" "$device" "$entry" "$position" "$size"; }
-  else
-    printf '%-46s refused: %s\n' "$device" "$(sed -E 's/.*: ([0-9]+ [A-Z]+), place .*/\1/' "$work/refusal")"
-  fi
+  status=0
+  answer=$("$offload" pick "$bundle" "$device" 2>"$work/message") || status=$?
+  case $status in
+    0) ;;
+    4) answer='no image for this card' ;;
+    1) answer='refused: this is not a device name' ;;
+    *) cat "$work/message" >&2; exit "$status" ;;
+  esac
+  printf '%-46s %s\n' "$device" "$answer"
 done <<'DEVICES'
 hip-amdgcn-amd-amdhsa--gfx906:sramecc+:xnack-
 hip-amdgcn-amd-amdhsa--gfx906:sramecc-:xnack-
@@ -34,28 +43,34 @@ openmp-amdgcn-amd-amdhsa--gfx1030
 gfx1030
 DEVICES
 
-cat <<'TEXT'
+echo
+echo 'Why does a gfx906 that states neither sramecc nor xnack get none? The nearest entries come first.'
+echo
+show explain "$bundle" hip-amdgcn-amd-amdhsa--gfx906 || [ $? = 4 ]
 
-entry: which entry of the bundle fits the device; position and size: where its image lies in the file, in bytes.
-NONE:  no entry fits. An entry that states a feature (xnack, sramecc) is only for a device that states it too, with the same
-       sign: every gfx906 entry here states both, so a gfx906 that states neither gets none. An entry that states no feature
-       (gfx1030) fits whatever the device states. Kinds (hip, openmp) are equal or not.
-QUERY: not a device name. It is written like hip-amdgcn-amd-amdhsa--gfx906:sramecc+:xnack-.
-TEXT
+echo
+echo 'A file that was cut short is refused, and the message names the entry:'
+echo
+head -c 17000 "$bundle" >"$work/short.bundle"
+(cd "$work" && show check short.bundle 2>&1) || [ $? = 1 ]
+
+echo
+echo 'For programs, the same in JSON:'
+echo
+show pick "$bundle" hip-amdgcn-amd-amdhsa--gfx1030 --json
 
 "$offload" normalise "$bundle" -o "$work/normal" >"$work/answer"
-"$offload" check "$work/normal" >"$work/accepted"
-"$offload" normalise "$work/normal" -o "$work/again" >"$work/answer"
-cmp "$work/normal" "$work/again"
+"$offload" normalise "$work/normal" -o - 2>>"$work/answer" | cmp - "$work/normal"
 echo
-echo "Its normal form (entries sorted, images packed, so that equal contents are equal files): $(<"$work/accepted"), length $(stat -c %s "$work/normal"); and it is its own normal form."
+echo "The normal form (entries sorted, images packed, so that equal contents are equal files):"
+echo "$("$offload" check "$work/normal"), and it is its own normal form."
 
 cat <<TEXT
 
 Next:
-  $offload pick $bundle hip-amdgcn-amd-amdhsa--gfx1030 -o gfx1030.o
-  $offload normalise $bundle -o normal.bundle
-  $offload --help
+  $1 pick $bundle hip-amdgcn-amd-amdhsa--gfx1030 -o gfx1030.o
+  $1 normalise $bundle -o normal.bundle
+  $1 help
   make install PREFIX=\$HOME/.local
   make test
 TEXT

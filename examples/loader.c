@@ -8,6 +8,8 @@
 #include <stdlib.h>
 #include <string.h>
 
+enum status { LOADED = 0, REFUSED = 1, NOT_READ = 3, NO_IMAGE = 4 };
+
 /* The whole file, or null. */
 static uint8_t *read_file(const char *path, size_t *length) {
     FILE *file = fopen(path, "rb");
@@ -32,21 +34,26 @@ static void load_on_card(const uint8_t *image, uint64_t size) {
     printf("%" PRIu64 " bytes for the card, the first is %u\n", size, size > 0 ? image[0] : 0);
 }
 
-int main(int count, char **words) {
-    const uint8_t *bundle, *device;
-    size_t length, device_length;
-    uint64_t number;
-    if (count != 3 || (bundle = read_file(words[1], &length)) == NULL)
-        return 2;
-    device = (const uint8_t *)words[2];
-    device_length = strlen(words[2]);
-
-    number = offload_pick_number(bundle, length, device, device_length);
-    if (number != OFFLOAD_OK) {
-        printf("refused: %" PRIu64 "\n", number);
-        return 1;
+/* Loads the image for the device, or says why there is none. */
+static enum status load(const uint8_t *bundle, size_t length, const char *device) {
+    struct offload_pick_answer pick = offload_pick(bundle, length, (const uint8_t *)device, strlen(device));
+    switch (pick.number) {
+    case OFFLOAD_OK:
+        load_on_card(bundle + pick.position, pick.size);
+        return LOADED;
+    case OFFLOAD_NONE: /* the bundle is sound: normal in a station with several kinds of cards */
+        puts("no image for this card");
+        return NO_IMAGE;
+    default: /* an alarm: the bundle is damaged, or the device name is wrong (QUERY) */
+        printf("refused: %" PRIu64 " %s\n", pick.number, offload_name(pick.number));
+        return REFUSED;
     }
-    load_on_card(bundle + offload_pick_position(bundle, length, device, device_length),
-                 offload_pick_size(bundle, length, device, device_length));
-    return 0;
+}
+
+int main(int count, char **words) {
+    size_t length = 0;
+    uint8_t *bundle = count == 3 ? read_file(words[1], &length) : NULL;
+    enum status status = bundle != NULL ? load(bundle, length, words[2]) : NOT_READ;
+    free(bundle);
+    return status;
 }

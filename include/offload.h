@@ -1,15 +1,26 @@
-/* Containers of GPU images: check an offload bundle, pick the image for a device, put a bundle in normal form.
+/* Offload bundles: files that hold GPU images for several devices. Check a bundle, pick the image for a device, look at
+ * each entry, write the bundle's normal form. For x86-64 Linux. docs/RULES.md has all rules in full.
  *
- * Every call ends and touches only the bytes lent to it; only the normalise calls write, and only to their output. A call takes any bytes: nothing
- * need be checked first. The caller answers for two things that no call can see: each length is the true length of what its pointer points to,
- * and a lent output shares no byte with anything else lent. A length of 0 goes with any pointer that is not null. A call keeps nothing between calls,
- * takes no memory but its stack, below 64 KiB, and may run in several threads at once on the same bundle.
+ * A call takes any bytes: nothing needs to be checked first. Every call returns, reads only what it is given, and only
+ * the normalise calls write, to their output alone. No call allocates memory or keeps anything for the next one; each
+ * needs less than 64 KiB of stack. Several threads may use the same bundle at the same time.
  *
- * A C call returns one number, so each number of an answer has a call of its own, which does the whole job. The calls of one family, given the
- * same bytes, speak of the same answer. A refusal has its number and its place, and 0 in every other number; on OK the place is 0.
+ * The caller is responsible for what no call can see:
+ *   - Each length is the true length of what its pointer points to.
+ *   - Pointers must never be null, even when the length is 0.
+ *   - An output shares no byte with anything else that is passed.
+ *   - Nobody changes the bytes while a call runs, or between the calls that belong to one answer.
  *
- * Each function is proved to return the field of that name of the definitions `check`, `pick` and `normalise` (crates/bundle/specs), and the normalise
- * calls to leave in the whole output what `normalised` says. Compressed bundles, text bundles and archives are no bundles here: MAGIC. */
+ * A call returns one number, so each number of an answer has a call of its own, which does the whole job. The calls of
+ * one family (offload_pick_number, offload_pick_place, ..), given the same bytes, belong to the same answer. For each
+ * family an inline function (offload_pick) makes the calls that are needed and returns the whole answer as a struct.
+ *
+ * A refusal has its number and its place, and 0 in every other number; it writes nothing. Where a call is accepted, the
+ * number is OFFLOAD_OK and the place is 0. One entry that breaks the rules refuses the whole bundle, for every device.
+ *
+ * Each call is proved to return the field of its name in the definition of its family (crates/bundle/specs), and the
+ * normalise calls to leave in the whole output what the definition says. The inline functions are plain C and not
+ * proved. */
 #ifndef OFFLOAD_H
 #define OFFLOAD_H
 
@@ -20,48 +31,185 @@
 extern "C" {
 #endif
 
-/* Numbers that come back, in the order in which they are tried. */
+#define OFFLOAD_VERSION "0.1.0"
+#define OFFLOAD_VERSION_MAJOR 0
+#define OFFLOAD_VERSION_MINOR 1
+#define OFFLOAD_VERSION_PATCH 0
+
+#define OFFLOAD_LIMIT UINT64_C(1073741824) /* most bytes in a container or an output */
+#define OFFLOAD_ENTRIES 64                 /* most entries in a bundle */
+#define OFFLOAD_ID_LIMIT 256               /* most bytes in an entry ID or a device name */
+
+/* A function of this header: no warning where it is not used. */
+#define OFFLOAD_INLINE static inline __attribute__((unused))
+
+/* Entry IDs, and device names, which are written like them (no ending zero):
+ *
+ *   id        = head { ":" feature }, with at most 8 features; the ID and its canonical form have 1 to 256 bytes
+ *   head      = kind "-" arch "-" vendor "-" system [ "-" fifth | "-" environment "-" processor ]
+ *   fifth     = processor, if it begins with gfx or sm_ (the environment is then empty)
+ *             | environment, if it does not (there is then no processor)
+ *   kind      = "host" | "hip" | "hipv4" | "openmp"
+ *   arch, vendor, system   = one or more of A-Z a-z 0-9 _ .
+ *   environment, processor = zero or more of these; an empty processor is no processor
+ *   feature   = name "+" (on) | name "-" (off), only where there is a processor
+ *   name      = one or more of a-z 0-9 _, and no name twice in an ID
+ *   canonical = kind-arch-vendor-system-environment-processor, then each ":" feature in byte order of the names
+ *
+ * An entry is compatible with a device name when kind, arch, vendor, system, environment and processor are equal, and
+ * every feature that the entry states is stated by the device name with the same sign. So an entry that leaves out a
+ * feature is for both settings, while a device name should state every feature of its card. Kinds are equal or not:
+ * clang's driver writes hipv4 today, and a device name with hip then gets OFFLOAD_NONE. */
+
+/* The numbers that calls return, in the order in which they are tried: the first that applies is returned. */
 enum offload_number {
-    OFFLOAD_OK = 0,      /* accepted */
-    OFFLOAD_LENGTH = 1,  /* container above OFFLOAD_LIMIT bytes */
-    OFFLOAD_MAGIC = 2,   /* under 24 bytes, or the first 24 are not the magic */
-    OFFLOAD_COUNT = 3,   /* under 32 bytes, or more than OFFLOAD_ENTRIES entries */
-    OFFLOAD_TABLE = 4,   /* a table row or its ID not wholly inside; ID of 0 or above 256 bytes */
-    OFFLOAD_ID = 5,      /* an entry ID breaks the rules */
-    OFFLOAD_RANGE = 6,   /* image before the table's end, or past the container's end */
-    OFFLOAD_TWICE = 7,   /* an earlier entry has the same meaning */
-    OFFLOAD_MIXED = 8,   /* an earlier entry of equal kind, triple and processor states other feature names */
-    OFFLOAD_QUERY = 9,   /* the device name breaks the ID rules */
-    OFFLOAD_NONE = 10,   /* no compatible entry */
-    OFFLOAD_BIG = 11,    /* the output would be above OFFLOAD_LIMIT bytes */
-    OFFLOAD_ROOM = 12    /* the lent output is shorter than the output */
+    OFFLOAD_OK = 0,       /* accepted */
+    OFFLOAD_LENGTH = 1,   /* the container is longer than OFFLOAD_LIMIT bytes */
+    OFFLOAD_MAGIC = 2,    /* under 24 bytes, or the first 24 differ: compressed and text bundles and archives too */
+    OFFLOAD_COUNT = 3,    /* under 32 bytes, or more than OFFLOAD_ENTRIES entries */
+    OFFLOAD_TABLE = 4,    /* an entry's row or its ID is not wholly inside, or the ID has 0 or above 256 bytes */
+    OFFLOAD_ID = 5,       /* an entry ID breaks the rules */
+    OFFLOAD_RANGE = 6,    /* an image starts before the end of the table or ends after the end of the container */
+    OFFLOAD_TWICE = 7,    /* an earlier entry has the same meaning */
+    OFFLOAD_MIXED = 8,    /* an earlier entry of equal kind, triple and processor states other feature names */
+    OFFLOAD_QUERY = 9,    /* the device name breaks the rules of IDs */
+    OFFLOAD_NONE = 10,    /* no entry is compatible with the device name; there is no entry with this index */
+    OFFLOAD_BIG = 11,     /* the output would be longer than OFFLOAD_LIMIT bytes */
+    OFFLOAD_ROOM = 12,    /* the output does not fit into the memory given for it */
+
+    /* Of offload binaries, where END and MANY are tried first. No call below returns these numbers: offload binaries
+     * are read and written from Rattle. */
+    OFFLOAD_HEAD = 13,    /* under 32 bytes left, the first four differ, or the version is not 1 */
+    OFFLOAD_SPAN = 14,    /* the size or the entry does not fit into the bytes that are left */
+    OFFLOAD_KIND = 15,    /* image kind above 5, or offload kind above 3 */
+    OFFLOAD_STRINGS = 16, /* the string pairs break the rules */
+    OFFLOAD_IMAGE = 17,   /* the image starts inside the header or ends after the end of the binary */
+    OFFLOAD_MANY = 18,    /* bytes remain after the 64th binary */
+    OFFLOAD_END = 19      /* every binary has been read */
 };
 
-#define OFFLOAD_LIMIT ((uint64_t)1073741824) /* largest container, in bytes */
-#define OFFLOAD_ENTRIES 64                   /* most entries in a bundle */
+/* The name of a number: "OK", "LENGTH", .., "END"; "UNKNOWN" for any other number. */
+OFFLOAD_INLINE const char *offload_name(uint64_t number) {
+    static const char *const names[] = {
+        "OK",   "LENGTH", "MAGIC", "COUNT", "TABLE", "ID",   "RANGE",   "TWICE", "MIXED", "QUERY",
+        "NONE", "BIG",    "ROOM",  "HEAD",  "SPAN",  "KIND", "STRINGS", "IMAGE", "MANY",  "END",
+    };
+    return number < sizeof names / sizeof *names ? names[number] : "UNKNOWN";
+}
 
-/* Check a bundle. number: OFFLOAD_OK or 1 to 8. place: for 4 to 8 the lowest entry index that the refusal applies to, else 0.
- * count: how many entries an accepted bundle has. */
+/* Check a bundle.
+ * number: OFFLOAD_OK, or 1 to 8.
+ * place: for 4 to 8 the lowest index of an entry that the refusal applies to, else 0. Indices count from 0.
+ * count: how many entries the bundle has. */
 uint64_t offload_check_number(const uint8_t *bundle, size_t bundle_length);
 uint64_t offload_check_place(const uint8_t *bundle, size_t bundle_length);
 uint64_t offload_check_count(const uint8_t *bundle, size_t bundle_length);
 
-/* Pick the image of the one entry that is compatible with a device name, such as "hip-amdgcn-amd-amdhsa-gfx906:sramecc+:xnack-" (no ending zero).
- * number: OFFLOAD_OK, 1 to 8 as the check gives them, OFFLOAD_QUERY or OFFLOAD_NONE. place: as the check gives it, 0 for QUERY and NONE.
- * index: the entry. position, size: its image, bytes position .. position + size of the bundle, all inside it; a size of 0 is an answer too. */
+struct offload_check_answer {
+    uint64_t number, place, count;
+};
+
+OFFLOAD_INLINE struct offload_check_answer offload_check(const uint8_t *bundle, size_t bundle_length) {
+    struct offload_check_answer answer = {0, 0, 0};
+    answer.number = offload_check_number(bundle, bundle_length);
+    if (answer.number == OFFLOAD_OK)
+        answer.count = offload_check_count(bundle, bundle_length);
+    else
+        answer.place = offload_check_place(bundle, bundle_length);
+    return answer;
+}
+
+/* Look at one entry of a bundle, by its index.
+ * number: OFFLOAD_OK, 1 to 8 as the check returns them, or OFFLOAD_NONE where the index is not below the count.
+ * place: as the check returns it, 0 for OFFLOAD_NONE.
+ * position, size: the entry's image, bytes position to position + size of the bundle.
+ * id_position, id_length: the entry's ID as it is spelled in the bundle. */
+uint64_t offload_entry_number(const uint8_t *bundle, size_t bundle_length, size_t index);
+uint64_t offload_entry_place(const uint8_t *bundle, size_t bundle_length, size_t index);
+uint64_t offload_entry_position(const uint8_t *bundle, size_t bundle_length, size_t index);
+uint64_t offload_entry_size(const uint8_t *bundle, size_t bundle_length, size_t index);
+uint64_t offload_entry_id_position(const uint8_t *bundle, size_t bundle_length, size_t index);
+uint64_t offload_entry_id_length(const uint8_t *bundle, size_t bundle_length, size_t index);
+
+struct offload_entry_answer {
+    uint64_t number, place, position, size, id_position, id_length;
+};
+
+OFFLOAD_INLINE struct offload_entry_answer offload_entry(const uint8_t *bundle, size_t bundle_length, size_t index) {
+    struct offload_entry_answer answer = {0, 0, 0, 0, 0, 0};
+    answer.number = offload_entry_number(bundle, bundle_length, index);
+    if (answer.number == OFFLOAD_OK) {
+        answer.position = offload_entry_position(bundle, bundle_length, index);
+        answer.size = offload_entry_size(bundle, bundle_length, index);
+        answer.id_position = offload_entry_id_position(bundle, bundle_length, index);
+        answer.id_length = offload_entry_id_length(bundle, bundle_length, index);
+    } else {
+        answer.place = offload_entry_place(bundle, bundle_length, index);
+    }
+    return answer;
+}
+
+/* Pick the image for a device, such as "hip-amdgcn-amd-amdhsa--gfx906:sramecc+:xnack-": that of the one entry which is
+ * compatible with the device name. The pick checks the bundle itself.
+ * number: OFFLOAD_OK, 1 to 8 as the check returns them, OFFLOAD_QUERY or OFFLOAD_NONE.
+ * place: as the check returns it, 0 for OFFLOAD_QUERY and OFFLOAD_NONE.
+ * index: the entry.
+ * position, size: its image, bytes position to position + size of the bundle, all inside it. An image may be empty. */
 uint64_t offload_pick_number(const uint8_t *bundle, size_t bundle_length, const uint8_t *device, size_t device_length);
 uint64_t offload_pick_place(const uint8_t *bundle, size_t bundle_length, const uint8_t *device, size_t device_length);
 uint64_t offload_pick_index(const uint8_t *bundle, size_t bundle_length, const uint8_t *device, size_t device_length);
-uint64_t offload_pick_position(const uint8_t *bundle, size_t bundle_length, const uint8_t *device, size_t device_length);
+uint64_t offload_pick_position(const uint8_t *bundle, size_t bundle_length,
+                               const uint8_t *device, size_t device_length);
 uint64_t offload_pick_size(const uint8_t *bundle, size_t bundle_length, const uint8_t *device, size_t device_length);
 
-/* Write a bundle's normal form: entries sorted by canonical ID, images packed after the table. Two bundles that hold the same entries have the same
- * normal form, byte for byte; it is accepted, is its own normal form, and every pick gives from it what it gives from the bundle.
- * number: OFFLOAD_OK, 1 to 8 as the check gives them, OFFLOAD_BIG or OFFLOAD_ROOM. place: as the check gives it, 0 for BIG and ROOM.
- * length: how many bytes are written at the start of out; what lies beyond stays as it was. A refusal writes nothing. */
+struct offload_pick_answer {
+    uint64_t number, place, index, position, size;
+};
+
+OFFLOAD_INLINE struct offload_pick_answer offload_pick(const uint8_t *bundle, size_t bundle_length,
+                                                       const uint8_t *device, size_t device_length) {
+    struct offload_pick_answer answer = {0, 0, 0, 0, 0};
+    answer.number = offload_pick_number(bundle, bundle_length, device, device_length);
+    if (answer.number == OFFLOAD_OK) {
+        answer.index = offload_pick_index(bundle, bundle_length, device, device_length);
+        answer.position = offload_pick_position(bundle, bundle_length, device, device_length);
+        answer.size = offload_pick_size(bundle, bundle_length, device, device_length);
+    } else {
+        answer.place = offload_pick_place(bundle, bundle_length, device, device_length);
+    }
+    return answer;
+}
+
+/* Write a bundle's normal form: the entries sorted by canonical ID, the images packed directly after the table. Two
+ * bundles have the same normal form, byte for byte, exactly when they hold the same entries. A normal form is accepted,
+ * is its own normal form, and every pick from it gives the image or the refusal that the bundle gives. It keeps no
+ * alignment of images: copy an image to aligned memory where that is needed.
+ * number: OFFLOAD_OK, 1 to 8 as the check returns them, OFFLOAD_BIG or OFFLOAD_ROOM.
+ * place: as the check returns it, 0 for OFFLOAD_BIG and OFFLOAD_ROOM.
+ * length: how many bytes are written at the start of out, at least 32; what lies beyond is unchanged.
+ *
+ * Room: a normal form takes 32 bytes and, for each entry, 24, the length of its canonical ID and the size of its image.
+ * A canonical ID is longer than the ID by two dashes at most, so bundle_length + 2 * OFFLOAD_ENTRIES is enough unless
+ * images share bytes. Always enough are 32 and, for each entry as offload_entry gives it, 26 + id_length + size; or,
+ * without looking at entries, the lesser of OFFLOAD_LIMIT and OFFLOAD_ENTRIES * (bundle_length + 2). */
 uint64_t offload_normalise_number(const uint8_t *bundle, size_t bundle_length, uint8_t *out, size_t out_length);
 uint64_t offload_normalise_place(const uint8_t *bundle, size_t bundle_length, uint8_t *out, size_t out_length);
 uint64_t offload_normalise_length(const uint8_t *bundle, size_t bundle_length, uint8_t *out, size_t out_length);
+
+struct offload_normalise_answer {
+    uint64_t number, place, length;
+};
+
+OFFLOAD_INLINE struct offload_normalise_answer offload_normalise(const uint8_t *bundle, size_t bundle_length,
+                                                                 uint8_t *out, size_t out_length) {
+    struct offload_normalise_answer answer = {0, 0, 0};
+    answer.length = offload_normalise_length(bundle, bundle_length, out, out_length);
+    if (answer.length == 0) { /* refused: a normal form has at least 32 bytes */
+        answer.number = offload_normalise_number(bundle, bundle_length, out, out_length);
+        answer.place = offload_normalise_place(bundle, bundle_length, out, out_length);
+    }
+    return answer;
+}
 
 #ifdef __cplusplus
 }

@@ -79,3 +79,7 @@ clang-offload-packager-19 -o binaries/pairs.bin \
 
 clang-offload-packager-19 -o binaries/bitcode.bin \
   --image=file=images/gfx906.bc,triple=amdgcn-amd-amdhsa,arch=gfx906,kind=openmp
+
+clang-offload-packager-19 -o binaries/small.bin \
+  --image=file=/dev/null,triple=amdgcn-amd-amdhsa,arch=gfx906,kind=hip \
+  --image=file=/dev/null,triple=nvptx64-nvidia-cuda,arch=sm_70,kind=cuda

@@ -1,66 +1,255 @@
-/* Calls the library through include/offload.h alone, built as C99 and as C++: the declarations fit the library, and the constants name its numbers. */
+/* Uses the library through include/offload.h alone, built as C99 and as C++: every call and every inline function, accepted
+ * and refused, and each constant on both sides of its limit. */
 #include "offload.h"
 
+#include <inttypes.h>
 #include <stdio.h>
+#include <stdlib.h>
 #include <string.h>
+
+enum { IMAGE = 5, SPACE = 8192, OTHER = 7 };
+
+static const char host[] = "host-x86_64-unknown-linux-gnu", card[] = "hip-amdgcn-amd-amdhsa-gfx906:xnack-";
 
 static int wrong;
 
-static void expect(const char *what, uint64_t got, uint64_t want) {
+static void expect(const char *what, const char *which, uint64_t got, uint64_t want) {
     if (got == want)
         return;
-    printf("%s: %llu and not %llu\n", what, (unsigned long long)got, (unsigned long long)want);
+    printf("%s: %s: %" PRIu64 " and not %" PRIu64 "\n", what, which, got, want);
     wrong = 1;
 }
 
-/* One entry, its ID as given, with an image of 5 bytes right after the table. */
-static size_t one_entry(uint8_t *out, const char *id) {
-    size_t length = strlen(id), end = 32 + 24 + length;
-    memset(out, 0, 512);
+/* What each family answers: the inline function, and each call. */
+
+static void check(const char *what, const uint8_t *bundle, size_t length, uint64_t number, uint64_t place, uint64_t count) {
+    struct offload_check_answer answer = offload_check(bundle, length);
+    expect(what, "offload_check, number", answer.number, number);
+    expect(what, "offload_check, place", answer.place, place);
+    expect(what, "offload_check, count", answer.count, count);
+    expect(what, "offload_check_number", offload_check_number(bundle, length), number);
+    expect(what, "offload_check_place", offload_check_place(bundle, length), place);
+    expect(what, "offload_check_count", offload_check_count(bundle, length), count);
+}
+
+static void entry(const char *what, const uint8_t *bundle, size_t length, size_t index, uint64_t number, uint64_t place,
+                  uint64_t position, uint64_t size, uint64_t id_position, uint64_t id_length) {
+    struct offload_entry_answer answer = offload_entry(bundle, length, index);
+    expect(what, "offload_entry, number", answer.number, number);
+    expect(what, "offload_entry, place", answer.place, place);
+    expect(what, "offload_entry, position", answer.position, position);
+    expect(what, "offload_entry, size", answer.size, size);
+    expect(what, "offload_entry, id_position", answer.id_position, id_position);
+    expect(what, "offload_entry, id_length", answer.id_length, id_length);
+    expect(what, "offload_entry_number", offload_entry_number(bundle, length, index), number);
+    expect(what, "offload_entry_place", offload_entry_place(bundle, length, index), place);
+    expect(what, "offload_entry_position", offload_entry_position(bundle, length, index), position);
+    expect(what, "offload_entry_size", offload_entry_size(bundle, length, index), size);
+    expect(what, "offload_entry_id_position", offload_entry_id_position(bundle, length, index), id_position);
+    expect(what, "offload_entry_id_length", offload_entry_id_length(bundle, length, index), id_length);
+}
+
+static void pick(const char *what, const uint8_t *bundle, size_t length, const char *device, uint64_t number, uint64_t place,
+                 uint64_t index, uint64_t position, uint64_t size) {
+    const uint8_t *name = (const uint8_t *)device;
+    size_t name_length = strlen(device);
+    struct offload_pick_answer answer = offload_pick(bundle, length, name, name_length);
+    expect(what, "offload_pick, number", answer.number, number);
+    expect(what, "offload_pick, place", answer.place, place);
+    expect(what, "offload_pick, index", answer.index, index);
+    expect(what, "offload_pick, position", answer.position, position);
+    expect(what, "offload_pick, size", answer.size, size);
+    expect(what, "offload_pick_number", offload_pick_number(bundle, length, name, name_length), number);
+    expect(what, "offload_pick_place", offload_pick_place(bundle, length, name, name_length), place);
+    expect(what, "offload_pick_index", offload_pick_index(bundle, length, name, name_length), index);
+    expect(what, "offload_pick_position", offload_pick_position(bundle, length, name, name_length), position);
+    expect(what, "offload_pick_size", offload_pick_size(bundle, length, name, name_length), size);
+}
+
+/* The output holds these bytes, and is otherwise unchanged; it is then made fresh again. */
+static void holds(const char *what, uint8_t *out, const uint8_t *bytes, size_t length) {
+    size_t i;
+    expect(what, "bytes written", (uint64_t)memcmp(out, bytes, length), 0);
+    for (i = length; i < SPACE; i++)
+        expect(what, "a byte beyond", out[i], OTHER);
+    memset(out, OTHER, SPACE);
+}
+
+/* An output of `room` bytes; `normal` are the bytes that are written, `written` their number. */
+static void normalise(const char *what, const uint8_t *bundle, size_t length, size_t room, uint64_t number, uint64_t place,
+                      const uint8_t *normal, size_t written) {
+    static uint8_t out[SPACE];
+    struct offload_normalise_answer answer;
+    memset(out, OTHER, SPACE);
+    answer = offload_normalise(bundle, length, out, room);
+    holds(what, out, normal, written);
+    expect(what, "offload_normalise, number", answer.number, number);
+    expect(what, "offload_normalise, place", answer.place, place);
+    expect(what, "offload_normalise, length", answer.length, written);
+    expect(what, "offload_normalise_number", offload_normalise_number(bundle, length, out, room), number);
+    holds(what, out, normal, written);
+    expect(what, "offload_normalise_place", offload_normalise_place(bundle, length, out, room), place);
+    holds(what, out, normal, written);
+    expect(what, "offload_normalise_length", offload_normalise_length(bundle, length, out, room), written);
+    holds(what, out, normal, written);
+}
+
+/* Bundles. */
+
+static void put_word(uint8_t *out, uint64_t value) {
+    int i;
+    for (i = 0; i < 8; i++)
+        out[i] = (uint8_t)(value >> (8 * i));
+}
+
+/* A table with these IDs; image i is at the table's end and `step` bytes on for each i. The table's end. */
+static size_t make_table(uint8_t *out, size_t count, const char *const *ids, size_t size, size_t step) {
+    size_t i, end = 32, at = 32;
+    for (i = 0; i < count; i++)
+        end += 24 + strlen(ids[i]);
     memcpy(out, "__CLANG_OFFLOAD_BUNDLE__", 24);
-    out[24] = 1;
-    out[32] = (uint8_t)end;
-    out[40] = 5;
-    out[48] = (uint8_t)length;
-    memcpy(out + 56, id, length);
-    memcpy(out + end, "image", 5);
-    return end + 5;
+    put_word(out + 24, count);
+    for (i = 0; i < count; i++) {
+        size_t length = strlen(ids[i]);
+        put_word(out + at, end + i * step);
+        put_word(out + at + 8, size);
+        put_word(out + at + 16, length);
+        memcpy(out + at + 24, ids[i], length);
+        at += 24 + length;
+    }
+    return end;
+}
+
+/* Two entries, with images of 5 bytes, packed. The length. */
+static size_t make_two(uint8_t *out, const char *id0, const char *image0, const char *id1, const char *image1) {
+    const char *ids[2];
+    size_t end;
+    ids[0] = id0;
+    ids[1] = id1;
+    end = make_table(out, 2, ids, IMAGE, IMAGE);
+    memcpy(out + end, image0, IMAGE);
+    memcpy(out + end + IMAGE, image1, IMAGE);
+    return end + 2 * IMAGE;
+}
+
+/* `count` entries that share one image of this size. The table's end. */
+static size_t make_many(uint8_t *out, size_t count, size_t size) {
+    static char texts[OFFLOAD_ENTRIES + 1][16];
+    const char *ids[OFFLOAD_ENTRIES + 1];
+    size_t i;
+    for (i = 0; i < count; i++) {
+        sprintf(texts[i], "host-a%02u-b-c", (unsigned)i);
+        ids[i] = texts[i];
+    }
+    return make_table(out, count, ids, size, 0);
+}
+
+/* A canonical ID of this length. */
+static const char *long_id(size_t length) {
+    static char text[OFFLOAD_ID_LIMIT + 2];
+    memset(text, 'c', length);
+    memcpy(text, "hip-a-b-", 8);
+    memcpy(text + length - 2, "--", 3);
+    return text;
+}
+
+/* Cases. */
+
+static void two_entries(void) {
+    static uint8_t bundle[SPACE], normal[SPACE];
+    size_t length = make_two(bundle, host, "HOST.", card, "CARD.");
+    size_t written = make_two(normal, "hip-amdgcn-amd-amdhsa--gfx906:xnack-", "CARD.", "host-x86_64-unknown-linux-gnu-", "HOST.");
+    const char *gfx906 = "hip-amdgcn-amd-amdhsa-gfx906";
+
+    check("two entries", bundle, length, OFFLOAD_OK, 0, 2);
+    check("a byte short", bundle, length - 1, OFFLOAD_RANGE, 1, 0);
+    check("table cut", bundle, 100, OFFLOAD_TABLE, 1, 0);
+    check("no count", bundle, 31, OFFLOAD_COUNT, 0, 0);
+    check("no magic", bundle, 23, OFFLOAD_MAGIC, 0, 0);
+    check("no bytes", bundle, 0, OFFLOAD_MAGIC, 0, 0);
+
+    entry("entry 0", bundle, length, 0, OFFLOAD_OK, 0, 144, IMAGE, 56, strlen(host));
+    entry("entry 1", bundle, length, 1, OFFLOAD_OK, 0, 149, IMAGE, 109, strlen(card));
+    entry("entry 2", bundle, length, 2, OFFLOAD_NONE, 0, 0, 0, 0, 0);
+    entry("the last index", bundle, length, SIZE_MAX, OFFLOAD_NONE, 0, 0, 0, 0, 0);
+    entry("entry 0, a byte short", bundle, length - 1, 0, OFFLOAD_RANGE, 1, 0, 0, 0, 0);
+
+    pick("the card", bundle, length, card, OFFLOAD_OK, 0, 1, 149, IMAGE);
+    pick("more is stated", bundle, length, "hip-amdgcn-amd-amdhsa--gfx906:sramecc+:xnack-", OFFLOAD_OK, 0, 1, 149, IMAGE);
+    pick("less is stated", bundle, length, gfx906, OFFLOAD_NONE, 0, 0, 0, 0);
+    pick("no name", bundle, length, "", OFFLOAD_QUERY, 0, 0, 0, 0);
+    pick("the card, a byte short", bundle, length - 1, card, OFFLOAD_RANGE, 1, 0, 0, 0);
+
+    normalise("normal form", bundle, length, SPACE, OFFLOAD_OK, 0, normal, written);
+    normalise("room enough", bundle, length, length + 2 * OFFLOAD_ENTRIES, OFFLOAD_OK, 0, normal, written);
+    normalise("room exact", bundle, length, written, OFFLOAD_OK, 0, normal, written);
+    normalise("a byte less room", bundle, length, written - 1, OFFLOAD_ROOM, 0, normal, 0);
+    normalise("no room", bundle, length, 0, OFFLOAD_ROOM, 0, normal, 0);
+    normalise("again", normal, written, written, OFFLOAD_OK, 0, normal, written);
+    normalise("normal form, a byte short", bundle, length - 1, SPACE, OFFLOAD_RANGE, 1, normal, 0);
+
+    check("bad ID", bundle, make_two(bundle, host, "HOST.", "hip-amdgcn", "CARD."), OFFLOAD_ID, 1, 0);
+    check("two spellings", bundle, make_two(bundle, gfx906, "ONE..", "hip-amdgcn-amd-amdhsa--gfx906", "TWO.."), OFFLOAD_TWICE, 1, 0);
+    check("other features", bundle, make_two(bundle, gfx906, "ONE..", card, "TWO.."), OFFLOAD_MIXED, 1, 0);
+}
+
+static void limits(void) {
+    static uint8_t bundle[SPACE];
+    size_t length = make_two(bundle, host, "HOST.", long_id(OFFLOAD_ID_LIMIT), "CARD."), large = 17 << 20, end;
+    uint8_t *many;
+    check("the longest ID", bundle, length, OFFLOAD_OK, 0, 2);
+    pick("the longest name", bundle, length, long_id(OFFLOAD_ID_LIMIT), OFFLOAD_OK, 0, 1, length - IMAGE, IMAGE);
+    pick("a name too long", bundle, length, long_id(OFFLOAD_ID_LIMIT + 1), OFFLOAD_QUERY, 0, 0, 0, 0);
+    check("an ID too long", bundle, make_two(bundle, host, "HOST.", long_id(OFFLOAD_ID_LIMIT + 1), "CARD."), OFFLOAD_TABLE, 1, 0);
+    check("the most entries", bundle, make_many(bundle, OFFLOAD_ENTRIES, 0), OFFLOAD_OK, 0, OFFLOAD_ENTRIES);
+    check("an entry too many", bundle, make_many(bundle, OFFLOAD_ENTRIES + 1, 0), OFFLOAD_COUNT, 0, 0);
+
+    many = (uint8_t *)calloc(OFFLOAD_LIMIT + 1, 1); /* zeros that are hardly ever looked at */
+    if (many == NULL)
+        exit(3);
+    check("the longest container", many, OFFLOAD_LIMIT, OFFLOAD_MAGIC, 0, 0);
+    check("a byte too long", many, OFFLOAD_LIMIT + 1, OFFLOAD_LENGTH, 0, 0);
+    end = make_many(many, OFFLOAD_ENTRIES, large);
+    check("images that share bytes", many, end + large, OFFLOAD_OK, 0, OFFLOAD_ENTRIES);
+    normalise("a normal form too long", many, end + large, 0, OFFLOAD_BIG, 0, many, 0);
+    free(many);
+}
+
+static void named(uint64_t number, const char *name) {
+    expect(name, "offload_name", (uint64_t)strcmp(offload_name(number), name), 0);
+}
+
+static void names(void) {
+    char version[32];
+    named(OFFLOAD_OK, "OK");
+    named(OFFLOAD_LENGTH, "LENGTH");
+    named(OFFLOAD_MAGIC, "MAGIC");
+    named(OFFLOAD_COUNT, "COUNT");
+    named(OFFLOAD_TABLE, "TABLE");
+    named(OFFLOAD_ID, "ID");
+    named(OFFLOAD_RANGE, "RANGE");
+    named(OFFLOAD_TWICE, "TWICE");
+    named(OFFLOAD_MIXED, "MIXED");
+    named(OFFLOAD_QUERY, "QUERY");
+    named(OFFLOAD_NONE, "NONE");
+    named(OFFLOAD_BIG, "BIG");
+    named(OFFLOAD_ROOM, "ROOM");
+    named(OFFLOAD_HEAD, "HEAD");
+    named(OFFLOAD_SPAN, "SPAN");
+    named(OFFLOAD_KIND, "KIND");
+    named(OFFLOAD_STRINGS, "STRINGS");
+    named(OFFLOAD_IMAGE, "IMAGE");
+    named(OFFLOAD_MANY, "MANY");
+    named(OFFLOAD_END, "END");
+    named(OFFLOAD_END + 1, "UNKNOWN");
+    named(UINT64_MAX, "UNKNOWN");
+    sprintf(version, "%d.%d.%d", OFFLOAD_VERSION_MAJOR, OFFLOAD_VERSION_MINOR, OFFLOAD_VERSION_PATCH);
+    expect("version", version, (uint64_t)strcmp(version, OFFLOAD_VERSION), 0);
 }
 
 int main(void) {
-    uint8_t bundle[512], normal[512], untouched[512];
-    const char *id = "hip-amdgcn-amd-amdhsa-gfx906:xnack-";
-    const uint8_t *same = (const uint8_t *)id, *other = (const uint8_t *)"hip-amdgcn-amd-amdhsa-gfx90a";
-    size_t length = one_entry(bundle, id), name = strlen(id);
-
-    expect("check_number", offload_check_number(bundle, length), OFFLOAD_OK);
-    expect("check_place", offload_check_place(bundle, length), 0);
-    expect("check_count", offload_check_count(bundle, length), 1);
-    expect("pick_number", offload_pick_number(bundle, length, same, name), OFFLOAD_OK);
-    expect("pick_place", offload_pick_place(bundle, length, same, name), 0);
-    expect("pick_index", offload_pick_index(bundle, length, same, name), 0);
-    expect("pick_position", offload_pick_position(bundle, length, same, name), length - 5);
-    expect("pick_size", offload_pick_size(bundle, length, same, name), 5);
-    expect("pick_number of another card", offload_pick_number(bundle, length, other, 28), OFFLOAD_NONE);
-    expect("pick_number of no name", offload_pick_number(bundle, length, other, 0), OFFLOAD_QUERY);
-    expect("pick_size of no name", offload_pick_size(bundle, length, other, 0), 0);
-
-    /* The canonical ID has one dash more. */
-    memset(normal, 7, sizeof normal);
-    memset(untouched, 7, sizeof untouched);
-    expect("normalise_number without room", offload_normalise_number(bundle, length, normal, length), OFFLOAD_ROOM);
-    expect("normalise_place without room", offload_normalise_place(bundle, length, normal, length), 0);
-    expect("normalise_length without room", offload_normalise_length(bundle, length, normal, length), 0);
-    expect("the output after ROOM", (uint64_t)memcmp(normal, untouched, sizeof normal), 0);
-    expect("normalise_number", offload_normalise_number(bundle, length, normal, sizeof normal), OFFLOAD_OK);
-    expect("normalise_length", offload_normalise_length(bundle, length, normal, sizeof normal), length + 1);
-    expect("the output beyond the length", (uint64_t)memcmp(normal + length + 1, untouched, sizeof normal - length - 1), 0);
-    expect("check_count of the normal form", offload_check_count(normal, length + 1), 1);
-
-    expect("a byte short", offload_check_number(bundle, length - 1), OFFLOAD_RANGE);
-    expect("table cut", offload_check_number(bundle, 60), OFFLOAD_TABLE);
-    expect("no count", offload_check_number(bundle, 31), OFFLOAD_COUNT);
-    expect("no magic", offload_check_number(bundle, 23), OFFLOAD_MAGIC);
-    expect("bad ID", offload_check_number(bundle, one_entry(bundle, "hip-amdgcn")), OFFLOAD_ID);
+    two_entries();
+    limits();
+    names();
     return wrong;
 }

@@ -13,21 +13,22 @@ export LLVM_DISABLE_SYMBOLIZATION=1
 ulimit -c 0
 ulimit -v $((8 << 20)) # 8 GiB
 
-# ends NAME MOST WORD..: how a program ends on each file, which stands for the word FILE. A status above MOST is told.
+# ends NAME STATUS WORD..: how a program ends on each file, which stands for the word FILE. A status that the pattern STATUS does not have is told.
 # A program that takes 10 seconds of processor time hangs (SIGXCPU); one that only waits is ended by the caller's limit.
 ends() {
-  local name=$1 most=$2 file status answered=0 refused=0 crashed=0 hung=0
+  local name=$1 allowed=$2 file status answered=0 refused=0 crashed=0 hung=0
   shift 2
   for file in "${files[@]}"; do
     (ulimit -St 10 && exec "${@//FILE/$file}") >"$out/text" 2>&1 </dev/null
     status=$?
     case $status in
-      0) answered=$((answered + 1)) ;;
+      0 | 4) answered=$((answered + 1)) ;;
       152) hung=$((hung + 1)) ;;
       12[5-9] | 1[3-9]? | 2??) crashed=$((crashed + 1)) ;;
       *) refused=$((refused + 1)) ;;
     esac
-    [ $status -le "$most" ] || { echo "$name: status $status: $file"; wrong=1; }
+    # shellcheck disable=SC2053
+    [[ $status == $allowed ]] || { echo "$name: status $status: $file"; wrong=1; }
   done 2>"$out/signals"
   printf '%-42s %8d %8d %8d %8d\n' "$name" $answered $refused $crashed $hung
 }
@@ -38,13 +39,15 @@ ends_if_installed() {
   for program in "$1-19" "$1"; do
     command -v "$program" >"$out/text" && break
   done
-  command -v "$program" >"$out/text" && ends "$program $2" 255 "$program" "${@:2}"
+  command -v "$program" >"$out/text" && ends "$program $2" '*' "$program" "${@:2}"
 }
 
 printf '%-42s %8s %8s %8s %8s\n' "${#files[@]} damaged files" answered refused crashed hung
-ends 'offload check' 1 "$offload" check FILE
-ends 'offload pick' 1 "$offload" pick FILE $target -o "$out/image"
-ends 'offload normalise' 1 "$offload" normalise FILE -o "$out/normal"
+ends 'offload check' '[01]' "$offload" check FILE
+ends 'offload list' '[01]' "$offload" list FILE
+ends 'offload pick' '[014]' "$offload" pick FILE $target -o "$out/image"
+ends 'offload explain' '[014]' "$offload" explain FILE $target
+ends 'offload normalise' '[01]' "$offload" normalise FILE -o "$out/normal"
 [ "${3-}" = llvm ] || exit $wrong
 ends_if_installed clang-offload-bundler -list -type=o -input=FILE
 ends_if_installed clang-offload-bundler -unbundle -type=o -targets=$target -input=FILE -output="$out/image"

@@ -2,21 +2,38 @@
 # Runs the smallest loader: tests/loader.sh LOADER
 set -eu
 samples=$(dirname "$0")/../samples/bundles
+damaged=$(mktemp)
+trap 'rm -f "$damaged"' EXIT
+head -c -1 "$samples/three-cards.bundle" >"$damaged"
 answer() { "$@" || echo "status $?"; }
 
 diff <(
   answer "$1" "$samples/three-cards.bundle" hip-amdgcn-amd-amdhsa--gfx906:sramecc+:xnack-
   answer "$1" "$samples/three-cards.bundle" host-x86_64-unknown-linux-gnu
   answer "$1" "$samples/three-cards.bundle" hip-amdgcn-amd-amdhsa--gfx906
+  answer "$1" "$samples/aligned.bundle" hip-amdgcn-amd-amdhsa--gfx1030
+  answer "$1" "$damaged" hip-amdgcn-amd-amdhsa--gfx906:sramecc+:xnack-
+  answer "$1" "$damaged" hip-amdgcn-amd-amdhsa--gfx906
+  answer "$1" "$samples/three-cards.bundle" gfx906
   answer "$1" /dev/null hip-amdgcn-amd-amdhsa--gfx906
   answer "$1" missing hip-amdgcn-amd-amdhsa--gfx906
+  answer "$1"
 ) - <<'TEXT'
 2048 bytes for the card, the first is 127
 0 bytes for the card, the first is 0
-refused: 10
+no image for this card
+status 4
+no image for this card
+status 4
+refused: 6 RANGE
 status 1
-refused: 2
+refused: 6 RANGE
 status 1
-status 2
+refused: 9 QUERY
+status 1
+refused: 2 MAGIC
+status 1
+status 3
+status 3
 TEXT
-echo 'loader: 5 answers as expected'
+echo 'loader: 10 answers as expected'

@@ -48,6 +48,11 @@ static void *check(void *out) {
     return out;
 }
 
+static void *entry_at(void *out) {
+    *(uint64_t *)out = offload_entry_number(bundle, length, OFFLOAD_ENTRIES - 1);
+    return out;
+}
+
 static void *pick(void *out) {
     *(uint64_t *)out = offload_pick_number(bundle, length, (const uint8_t *)device, sizeof device - 1);
     return out;
@@ -81,7 +86,7 @@ int main(void) {
     static const struct {
         const char *name;
         void *(*call)(void *);
-    } calls[] = {{"check", check}, {"pick", pick}, {"normalise", normalise}};
+    } calls[] = {{"check", check}, {"entry", entry_at}, {"pick", pick}, {"normalise", normalise}};
     size_t base, i;
     uint64_t answer = 0;
     int wrong = 0;

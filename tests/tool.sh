@@ -1,47 +1,18 @@
 #!/usr/bin/env bash
 # Drives the tool as a person would: tests/tool.sh OFFLOAD. Every line that differs is printed; the exit status is 1 then.
 set -u
+export LC_ALL=C
 offload=$(realpath "$1")
-samples=$(realpath "$(dirname "$0")/../samples")
+top=$(realpath "$(dirname "$0")/..")
+samples=$top/samples
 cards=$samples/bundles/three-cards.bundle
+fields=$samples/bundles/five-fields.bundle
 folder=$(mktemp -d)
 trap 'rm -rf "$folder"' EXIT
-mkdir "$folder/files"
-cd "$folder/files" || exit 1
-tried=0
-wrong=0
-
-fail() {
-  printf 'wrong: %s\n' "$1"
-  wrong=1
-}
-
-# expect STATUS OUTPUT ERROR WORD..: what the tool answers. OUTPUT and ERROR are patterns for the whole text.
-expect() {
-  local status=$1 output=$2 error=$3 got
-  shift 3
-  timeout 60 "$offload" "$@" >../output 2>../error </dev/null
-  got=$?
-  tried=$((tried + 1))
-  [ "$got" = "$status" ] || fail "offload $*: status $got and not $status"
-  # shellcheck disable=SC2053
-  [[ $(<../output) == $output ]] || fail "offload $*: output: $(<../output)"
-  # shellcheck disable=SC2053
-  [[ $(<../error) == $error ]] || fail "offload $*: error: $(<../error)"
-}
-
-same() {
-  tried=$((tried + 1))
-  cmp "$1" "$2" || fail "$1 is not $2"
-}
-
-# The folder holds these files and no other.
-holds() {
-  local files
-  files=$(ls -A)
-  tried=$((tried + 1))
-  [ "${files//$'\n'/ }" = "$*" ] || fail "the folder holds $files and not $*"
-}
+mkdir "$folder/some files"
+cd "$folder/some files" || exit 1
+# shellcheck source=tests/answers.sh
+. "$top/tests/answers.sh"
 
 # The number as 8 bytes.
 word() {
@@ -59,24 +30,71 @@ bundle() {
   for id in "$@"; do word "$end"; word "$size"; word ${#id}; printf %s "$id"; done
 }
 
-# Help, version and bad usage.
-version="offload [0-9]*.[0-9]*.[0-9]*"
-expect 0 "$version: bundles of GPU images*offload check FILE*Exit status: *" '' --help
-expect 0 "$version" '' --version
-usage='offload: bad usage*offload check FILE*'
-expect 2 '' "$usage"
-expect 2 '' "$usage" help
-expect 2 '' "$usage" --help me
-expect 2 '' "$usage" check
-expect 2 '' "$usage" check "$cards" "$cards"
-expect 2 '' "$usage" check "$cards" -o out
-expect 2 '' "$usage" check --quick "$cards"
-expect 2 '' "$usage" pick "$cards"
-expect 2 '' "$usage" pick "$cards" gfx906 -o
-expect 2 '' "$usage" pick "$cards" gfx906 -o one -o two
-expect 2 '' "$usage" pick "$cards" gfx906 more
-expect 2 '' "$usage" normalise "$cards"
-expect 2 '' "$usage" normalise -o out
+# Help and version.
+statuses='*Exit status:*0  accepted*1  refused*2  bad usage*3  a file *4  no image for this device (NONE)'
+all="offload [0-9]*.[0-9]*.[0-9]*: bundles of GPU images*offload check FILE*offload pick FILE DEVICE [[]-o OUT] *$statuses"
+for word in help -h --help; do
+  expect 0 "$all" '' $word
+  expect 0 "offload list FILE [[]--json]*for each entry*$statuses" '' $word list
+  expect 0 'Entry IDs*id * 1 to 256 bytes*kind * "hip"*canonical = kind-arch-vendor-system-environment-processor*hipv4.' '' $word id
+  expect 2 '' $'offload: no help about me\nTry: offload help' $word me
+  expect 2 '' $'offload: unexpected word pick\nTry: offload help' $word check pick
+done
+lines=$("$offload" help id | wc -l)
+[ "$lines" -le 17 ] || fail "help id has $lines lines"
+# The grammar of IDs stands in three places, word for word: the header, RULES and help id.
+grammar='/id        = /,/canonical = /'
+sed -n "$grammar{s/^ \\*   //;p}" "$top/include/offload.h" >../header
+sed -n "$grammar p" "$top/docs/RULES.md" >../rules
+"$offload" help id | sed -n "$grammar{s/^  //;p}" >../help
+same ../rules ../header
+same ../help ../header
+[ "$(wc -l <../header)" = 10 ] || fail 'the grammar of IDs in the header'
+help() {
+  local word
+  expect 0 "offload $2 [[]--json]*$statuses" '' help "$1"
+  for word in -h --help; do
+    expect 0 "offload $2 [[]--json]*$statuses" '' "$1" $word
+    expect 0 "offload $2 [[]--json]*$statuses" '' "$1" missing $word more
+  done
+}
+help check 'check FILE'
+help list 'list FILE'
+help pick 'pick FILE DEVICE [[]-o OUT]'
+help explain 'explain FILE DEVICE'
+help normalise 'normalise FILE -o OUT'
+help normalize 'normalise FILE -o OUT'
+expect 0 'offload [0-9]*.[0-9]*.[0-9]*' '' --version
+expect 2 '' $'offload: unexpected word now\nTry: offload help' --version now
+holds
+
+# Bad usage names the word.
+# usage FAULT COMMAND WORD..
+usage() {
+  local fault=$1 command=$2
+  shift 2
+  expect 2 '' "offload: ${command:+$command: }$fault"$'\n'"Try: offload help${command:+ $command}" "$@"
+}
+usage 'missing command' ''
+usage 'unknown command lits' '' lits "$cards"
+usage 'unknown command HELP' '' HELP
+usage 'unknown option --json' '' --json check "$cards"
+usage 'missing FILE' check check
+usage 'missing FILE' check check --json
+usage 'unexpected word more' check check "$cards" more
+usage 'unexpected word --json' check check -- "$cards" --json
+usage 'unknown option --quick' check check --quick "$cards"
+usage 'unknown option --jso' list list "$cards" --jso
+usage 'unknown option -o' check check "$cards" -o out
+usage 'unknown option -o' explain explain "$cards" gfx906 -o out
+usage 'missing DEVICE' pick pick "$cards"
+usage 'missing DEVICE' explain explain "$cards"
+usage 'no file name after -o' pick pick "$cards" gfx906 -o
+usage 'a second -o' pick pick "$cards" gfx906 -o one -o two
+usage 'unexpected word more' pick pick "$cards" gfx906 more
+usage 'missing -o OUT' normalise normalise "$cards"
+usage 'missing -o OUT' normalise normalize "$cards"
+usage 'missing FILE' normalise normalise -o out
 holds
 
 # Accepted bundles.
@@ -84,14 +102,41 @@ expect 0 'accepted, entries 8' '' check "$cards"
 expect 0 'accepted, entries 4' '' check "$samples/bundles/aligned.bundle"
 expect 0 'accepted, entries 5' '' check "$samples/bundles/kinds.bundle"
 expect 0 'accepted, entries 1' '' check "$samples/bundles/host-only.bundle"
-expect 0 'accepted, entries 4' '' check "$samples/bundles/five-fields.bundle"
+expect 0 'accepted, entries 4' '' check "$fields"
 bundle 0 >none
 expect 0 'accepted, entries 0' '' check none
-rm none
+expect 0 '{"file":"none","number":0,"name":"OK","entries":0}' '' check none --json
+
+# A line for each entry, with the ID as spelled where that differs.
+heading='INDEX     OFFSET       SIZE  ID*SPELLED'
+expect 0 "$heading" '' list none
+expect 0 '' '' list --json none
+expect 0 'INDEX     OFFSET       SIZE  ID                                             SPELLED
+    0        277          0  host-x86_64-unknown-linux-gnu-                 host-x86_64-unknown-linux-gnu
+    1        277       2048  hip-amdgcn-amd-amdhsa--gfx906:sramecc-:xnack+  hip-amdgcn-amd-amdhsa-gfx906:sramecc-:xnack+
+    2       2325       2048  hip-amdgcn-amd-amdhsa--gfx906:sramecc+:xnack+  hip-amdgcn-amd-amdhsa-gfx906:sramecc+:xnack+
+    3       4373       2248  openmp-amdgcn-amd-amdhsa--gfx1030              openmp-amdgcn-amd-amdhsa-gfx1030' '' list "$fields"
+expect 0 "$heading
+    0       4096          0  host-x86_64-unknown-linux-gnu-
+    1       4096       3088  hipv4-amdgcn-amd-amdhsa--gfx90a:sramecc+:xnack-
+    2       8192       2048  hipv4-amdgcn-amd-amdhsa--gfx906:sramecc-:xnack+
+    3      12288       2248  hipv4-amdgcn-amd-amdhsa--gfx1030" '' list "$samples/bundles/aligned.bundle"
+bundle 7 host-a-b-c- host-a-b-d-- host-a-b-e-f >three
+truncate -s 1073741824 three
+end=$((32 + 3 * 24 + 11 + 12 + 12))
+expect 0 "{\"index\":0,\"offset\":$end,\"size\":7,\"id\":\"host-a-b-c--\",\"spelled\":\"host-a-b-c-\"}
+{\"index\":1,\"offset\":$end,\"size\":7,\"id\":\"host-a-b-d--\"}
+{\"index\":2,\"offset\":$end,\"size\":7,\"id\":\"host-a-b-e-f-\",\"spelled\":\"host-a-b-e-f\"}" '' list three --json
+ids=()
+for k in {10..73}; do ids+=("host-a$k-b-c"); done
+bundle 0 "${ids[@]}" >many
+expect 0 "$heading*   63 *  host-a73-b-c--  host-a73-b-c" '' list many
+is 'lines of list' "$("$offload" list many | wc -l)" 65
+rm ./*
 
 # Each card gets its image.
 gfx=hip-amdgcn-amd-amdhsa--gfx
-expect 0 'entry 0, position *, size 0' '' pick "$cards" host-x86_64-unknown-linux-gnu -o out
+expect 0 'entry 0, offset 554, size 0' '' pick "$cards" host-x86_64-unknown-linux-gnu -o out
 : >nothing
 same out nothing
 rm nothing
@@ -101,109 +146,293 @@ for card in 906:sramecc+:xnack+ 906:sramecc+:xnack- 906:sramecc-:xnack+ 906:sram
   processor=gfx${card%%:*}
   features=${card#"${card%%:*}"}
   image=$samples/images/$processor${features:+-}${features//:/}.o
-  expect 0 "entry $index, position *, size $(stat -c %s "$image")" '' pick "$cards" "$gfx$card" -o out
+  expect 0 "entry $index, offset *, size $(stat -c %s "$image")" '' pick "$cards" "$gfx$card" -o out
   same out "$image"
 done
 expect 0 'entry 7, *' '' pick -o out "$cards" hip-amdgcn-amd-amdhsa-gfx1030:cumode+
 same out "$samples/images/gfx1030.o"
+expect 0 "{\"file\":\"$cards\",\"number\":0,\"name\":\"OK\",\"device\":\"${gfx}1030\",\"index\":7,\"offset\":14922,\"size\":2248}" '' \
+  pick "$cards" "${gfx}1030" --json
 holds out
 rm out
 
-# Refusals: number, name, place and a sentence; nothing is written, and what was there stays.
-refusal() {
-  echo "offload: $1: $2, place $3: *."
+# No image for a card is a status of its own, and the message points to explain.
+sentence='No entry fits this device: kind, triple and processor must be equal, and every feature that the entry states must be stated by the device '
+sentence+='with the same sign.'
+advice='offload explain FILE DEVICE says for each entry why it does not fit.'
+none() {
+  printf 'offload: %s: 10 NONE, device "%s": %s\n  %s' "$cards" "$1" "$sentence" "$advice"
 }
+left=$'\n  out is left as it was.'
 printf kept >out
 cp out kept
-expect 1 '' "$(refusal "$cards" '10 NONE' 0)" pick "$cards" "${gfx}906" -o out
-expect 1 '' "$(refusal "$cards" '10 NONE' 0)" pick "$cards" "${gfx}90a:sramecc-:xnack+" -o new
-expect 1 '' "$(refusal "$cards" '9 QUERY' 0)" pick "$cards" gfx906 -o out
-expect 1 '' "$(refusal "$cards" '9 QUERY' 0)" pick "$cards" '' -o new
-expect 1 '' "$(refusal "$cards" '9 QUERY' 0)" pick "$cards" -o new -- -o
-same out kept
-holds kept out
-rm kept out
+expect 4 '' "$(none "${gfx}906")" pick "$cards" "${gfx}906"
+expect 4 '' "$(none "${gfx}906")" pick "$cards" "${gfx}906" -o -
+expect 4 '' "$(none "${gfx}90a:sramecc-:xnack+")" pick "$cards" "${gfx}90a:sramecc-:xnack+" -o new
+expect 4 '' "$(none "${gfx}906")$left" pick "$cards" "${gfx}906" -o out
+object="{\"file\":\"$cards\",\"number\":10,\"name\":\"NONE\",\"device\":\"${gfx}906\",\"sentence\":\"$sentence\",\"advice\":\"$advice\""
+expect 4 "$object}" '' pick --json "$cards" "${gfx}906" -o new
+expect 4 "$object,\"kept\":\"out\"}" '' pick --json "$cards" "${gfx}906" -o out
+: >-
+expect 4 '' "$object}" pick --json "$cards" "${gfx}906" -o -
+expect 4 "$object,\"kept\":\"./-\"}" '' pick --json "$cards" "${gfx}906" -o ./-
+rm ./-
 
+# Refusals: number, name, the entry or the device that is named, a sentence, and what to do. Nothing is written, and what was there stays.
+# refusal FILE NUMBER-AND-NAME [WHERE [MORE]]
+refusal() {
+  printf 'offload: %s: %s%s: *.%s\n  *.' "$1" "$2" "${3:+, $3}" "${4:+ $4}"
+}
+# object FILE NUMBER NAME KEYS: a refusal in JSON.
+object() {
+  printf '{"file":"%s","number":%s,"name":"%s",%s"sentence":"*.",*"advice":"*."*}' "$1" "$2" "$3" "${4-}"
+}
+expect 1 '' "$(refusal "$cards" '9 QUERY' 'device "gfx906"')$left" pick "$cards" gfx906 -o out
+expect 1 '' "$(refusal "$cards" '9 QUERY' 'device ""')" pick "$cards" '' -o new
+expect 1 '' "$(refusal "$cards" '9 QUERY' 'device "-o"')" pick "$cards" -o new -- -o
+expect 1 '' "$(refusal "$cards" '9 QUERY' 'device "-"')" pick "$cards" -
+expect 1 '' "$(refusal "$cards" '9 QUERY' 'device "gfx906"')" explain "$cards" gfx906
+expect 1 '' "$(refusal "$cards" '9 QUERY' 'device "a\\x09\\x22\\x5c\\xff ~\\x7f"')" pick "$cards" $'a\t"\\\xff ~\x7f'
+expect 1 "$(object "$cards" 9 QUERY '"device":"gfx906",')" '' pick "$cards" gfx906 --json
+expect 1 "$(object "$cards" 9 QUERY '"device":"gfx906",')" '' explain --json "$cards" gfx906
 : >empty
-expect 1 '' "$(refusal empty '2 MAGIC' 0)" check empty
-expect 1 '' "$(refusal "$samples/binaries/one.bin" '2 MAGIC' 0)" check "$samples/binaries/one.bin"
+expect 1 '' "$(refusal empty '2 MAGIC')$left" normalise empty -o out
+expect 1 '' "$(refusal empty '2 MAGIC')" normalise empty -o new
+expect 1 "$(object empty 2 MAGIC)" '' normalise empty --json -o new
+same out kept
+holds empty kept out
+rm ./*
+
 head -c 31 "$cards" >-o
-expect 1 '' "$(refusal -o '3 COUNT' 0)" check -- -o
+expect 1 '' "$(refusal -o '3 COUNT')" check -- -o
+expect 1 '' "$(refusal standard\ input '3 COUNT')" check - <./-o
+expect 1 "$(object - 3 COUNT)" '' check - --json <./-o
+bundle 0 "${ids[@]}" host-a-b-c >over
+expect 1 '' "$(refusal over '3 COUNT')" list over
 head -c 200 "$cards" >short
-expect 1 '' "$(refusal short '4 TABLE' 2)" check short
+expect 1 '' "$(refusal short '4 TABLE' 'entry 2')" check short
+expect 1 "$(object short 4 TABLE '"place":2,')" '' check short --json
+bundle 0 host-a-b-c '' >nameless
+expect 1 '' "$(refusal nameless '4 TABLE' 'entry 1')" list nameless
 head -c -1 "$cards" >short
-expect 1 '' "$(refusal short '6 RANGE' 7)" check short
-expect 1 '' "$(refusal short '6 RANGE' 7)" pick short "${gfx}906"
+where="entry 7 \"${gfx}1030\" (offset 14922, size 2248 in a file of 17169 bytes)"
+expect 1 '' "$(refusal short '6 RANGE' "$where")" check short
+expect 1 '' "$(refusal short '6 RANGE' "$where")" pick short "${gfx}906"
+expect 1 '' "$(refusal short '6 RANGE' "$where")" explain short gfx906
+expect 1 "$(object short 6 RANGE "\"place\":7,\"id\":\"${gfx}1030\",\"offset\":14922,\"size\":2248,")" '' list short --json
 bundle 0 host-a-b-c host-a-b-c- hip-a >id
-expect 1 '' "$(refusal id '5 ID' 2)" check id
-bundle 0 host-a-b-c hip-a-b-c-gfx906:xnack+:sramecc- hip-a-b-c--gfx906:sramecc-:xnack+ >twice
-expect 1 '' "$(refusal twice '7 TWICE' 2)" check twice
-bundle 0 hip-a-b-c-gfx906 hip-a-b-c-gfx906:xnack+ >mixed
-expect 1 '' "$(refusal mixed '8 MIXED' 1)" check mixed
+expect 1 '' "$(refusal id '5 ID' 'entry 2 "hip-a"')" check id
+expect 1 "$(object id 5 ID '"place":2,"id":"hip-a",')" '' check --json id
+bundle 0 host-a-b-c $'hip-\n"\\\x80' >id
+expect 1 '' "$(refusal id '5 ID' 'entry 1 "hip-\\x0a\\x22\\x5c\\x80"')" check id
+expect 1 "$(object id 5 ID '"place":1,"id":"hip-\\u000a\\"\\\\\\\\x80",')" '' check --json id
+{ bundle 1 $'hip-\xe2\x82'; printf '\xac'; } >id
+expect 1 "$(object id 5 ID '"place":0,"id":"hip-\\\\xe2\\\\x82",')" '' check --json id
+bundle 0 host-a-b-c hip-a-b-c-gfx906:xnack+:sramecc- hip-a-b-c--gfx906:sramecc-:xnack- hip-a-b-c--gfx906:sramecc-:xnack+ >twice
+earlier='It is entry 1 "hip-a-b-c-gfx906:xnack+:sramecc-".'
+expect 1 '' "$(refusal twice '7 TWICE' 'entry 3 "hip-a-b-c--gfx906:sramecc-:xnack+"' "$earlier")" check twice
+expect 1 "$(object twice 7 TWICE '"place":3,"id":"hip-*+","earlier":1,"earlier_id":"hip-a-b-c-gfx906:xnack+:sramecc-",')" '' list twice --json
+bundle 0 hip-a-b-c-gfx906 hip-a-b-c-gfx90a:xnack+ openmp-a-b-c-gfx90a hip-a-b-c-gfx90a:sramecc+ >mixed
+expect 1 '' "$(refusal mixed '8 MIXED' 'entry 3 "hip-a-b-c-gfx90a:sramecc+"' 'It is entry 1 "hip-a-b-c-gfx90a:xnack+".')" check mixed
+for pair in ' :xnack+' ':xnack+ ' ':xnack+ :sramecc-:xnack-' ':f+ :g+:f-' ':a+:b+ :a+'; do
+  bundle 0 "hip-a-b-c-gfx906${pair% *}" "hip-a-b-c-gfx906${pair#* }" >mixed
+  expect 1 '' "$(refusal mixed '8 MIXED' "entry 1 \"hip-a-b-c-gfx906${pair#* }\"" "It is entry 0 \"hip-a-b-c-gfx906${pair% *}\".")" check mixed
+done
 truncate -s 1073741825 long
-expect 1 '' "$(refusal long '1 LENGTH' 0)" check long
+expect 1 '' "$(refusal long '1 LENGTH')" check long
 cp "$cards" large
 truncate -s 1073741824 large
 expect 0 'accepted, entries 8' '' check large
+rm ./*
+
+# What is no bundle is named, with what to do.
+# looks LIKE ADVICE BYTES: LIKE is empty where the bytes are like nothing known.
+looks() {
+  # shellcheck disable=SC2059
+  printf "$3" >file
+  expect 1 '' "offload: file: 2 MAGIC: *, so it is no binary bundle.${1:+ It looks like $1.}"$'\n'"  $2" check file
+  expect 1 "$(object file 2 MAGIC)" '' check file --json
+  [[ $(<../output) == *"${1:+\"looks_like\":\"$1\"}"* ]] || fail "looks_like: $(<../output)"
+}
+looks 'an empty file' '*written whole*' ''
+looks 'a compressed bundle' '*clang-offload-bundler -unbundle*without -compress.' 'CCOB\2\0'
+looks 'an archive' '*llvm-ar x FILE*' '!<arch>\n'
+looks 'an ELF file' '*objcopy*.hip_fatbin*clang-offload-bundler -unbundle -type=o*' '\177ELF'
+looks 'offload binaries' '*clang-offload-packager*' '\020\377\020\255'
+looks 'the beginning of a bundle' '*cut short*' '_'
+looks 'the beginning of a bundle' '*cut short*' __CLANG_OFFLOAD_BUNDLE_
+for sign in ';' '#' //; do
+  looks 'a text bundle' '*clang-offload-bundler -unbundle*' "\\n$sign __CLANG_OFFLOAD_BUNDLE____START__ host-a-b-c\\n"
+done
+for bytes in CCO '!<arch>' '\177EL' '\020\377\020' __CLANG_OFFLOAD_BUNDLE. '# __CLANG_OFFLOAD_BUNDLE____START_' \
+  ' __CLANG_OFFLOAD_BUNDLE____START__' '#' '\n'; do
+  looks '' '*clang-offload-bundler makes it (-type=o*' "$bytes"
+done
+expect 1 '' "$(refusal "$samples/binaries/one.bin" '2 MAGIC' '' 'It looks like offload binaries.')" check "$samples/binaries/one.bin"
+expect 1 '' "$(refusal "$samples/images/gfx906.o" '2 MAGIC' '' 'It looks like an ELF file.')" check "$samples/images/gfx906.o"
+rm file
+
+# Why each entry does not fit: the nearest first, of equals the lower index.
+bundle 0 host-a-b-c hip-a-b-c-gfx1 hip-a-b-c-e-gfx1:f+:g+ hip-x-b-c-e-gfx1 hip-a-x-c-e-gfx1 hip-a-b-x-e-gfx1 hip-a-b-c-x-gfx1 hip-a-b-c-e-gfx2 hip-a-b-c-e \
+  hip-a-b-c-e-gfx1:f-:g- hip-a-b-c-e-gfx1:f+:g- hip-x-x-x-e-gfx1 openmp-a-b-c-e-gfx1 >all
+tail='    7  hip-a-b-c-e-gfx2        processor: entry gfx2, device gfx1
+    8  hip-a-b-c-e-            processor: entry (none), device gfx1
+    1  hip-a-b-c--gfx1         environment: entry (none), device e
+    6  hip-a-b-c-x-gfx1        environment: entry x, device e
+    5  hip-a-b-x-e-gfx1        system: entry x, device c
+    4  hip-a-x-c-e-gfx1        vendor: entry x, device b
+    3  hip-x-b-c-e-gfx1        arch: entry x, device a
+   11  hip-x-x-x-e-gfx1        arch: entry x, device a
+    0  host-a-b-c--            kind: entry host, device hip
+   12  openmp-a-b-c-e-gfx1     kind: entry openmp, device hip'
+expect 0 "INDEX  ID                      REASON
+   10  hip-a-b-c-e-gfx1:f+:g-  fits
+    2  hip-a-b-c-e-gfx1:f+:g+  feature: entry g+, device g-
+    9  hip-a-b-c-e-gfx1:f-:g-  feature: entry f-, device f+
+$tail" '' explain all hip-a-b-c-e-gfx1:g-:f+:h+
+expect 4 "INDEX  ID                      REASON
+    2  hip-a-b-c-e-gfx1:f+:g+  feature: entry f+, device (not stated)
+    9  hip-a-b-c-e-gfx1:f-:g-  feature: entry f-, device (not stated)
+   10  hip-a-b-c-e-gfx1:f+:g-  feature: entry f+, device (not stated)
+$tail" '' explain all hip-a-b-c-e-gfx1
+expect 4 "INDEX  ID *
+    2  hip-a-b-c-e-gfx1:f+:g+  feature: entry g+, device (not stated)
+    9  hip-a-b-c-e-gfx1:f-:g-  feature: entry g-, device (not stated)
+   10  hip-a-b-c-e-gfx1:f+:g-  feature: entry g-, device (not stated)
+$tail" '' explain all hip-a-b-c-e-gfx1:f-
+bundle 0 host-a-b-c-e hip-a-b-c-gfx1:f+ hip-a-b-c-gfx1:f- hip-a-b-c-gfx2:f+ >some
+expect 0 '{"index":2,"id":"hip-a-b-c--gfx1:f-","fits":true}
+{"index":1,"id":"hip-a-b-c--gfx1:f+","fits":false,"reason":"feature sign","entry":"f+","device":"f-"}
+{"index":3,"id":"hip-a-b-c--gfx2:f+","fits":false,"reason":"processor","entry":"gfx2","device":"gfx1"}
+{"index":0,"id":"host-a-b-c-e-","fits":false,"reason":"kind","entry":"host","device":"hip"}' '' explain some hip-a-b-c-gfx1:f- --json
+expect 4 '{"index":1,"id":"hip-a-b-c--gfx1:f+","fits":false,"reason":"feature not stated","entry":"f+"}
+{"index":2,*"reason":"feature not stated","entry":"f-"}
+*' '' explain some hip-a-b-c-gfx1:g- --json
+expect 4 '{"index":0,"id":"host-a-b-c-e-","fits":false,"reason":"environment","entry":"e","device":""}
+*' '' explain some host-a-b-c --json
+bundle 0 >none
+expect 4 'INDEX  ID  REASON' '' explain none host-a-b-c
+expect 4 '' '' explain none host-a-b-c --json
+# It says what pick says.
+for sample in "$samples"/bundles/*; do
+  while read -r device; do
+    if picked=$("$offload" pick "$sample" "$device" 2>../error); then
+      index=${picked%%,*}
+      expect 0 "INDEX *"$'\n'"*( )${index#entry }  hip*  fits"$'\n*' '' explain "$sample" "$device"
+    else
+      expect 4 'INDEX  ID * REASON!(*fits*)' '' explain "$sample" "$device"
+    fi
+  done <<'DEVICES'
+hip-amdgcn-amd-amdhsa--gfx906
+hip-amdgcn-amd-amdhsa--gfx906:xnack+:sramecc-
+hipv4-amdgcn-amd-amdhsa--gfx90a:sramecc+:xnack-
+hip-amdgcn-amd-amdhsa--gfx1030
+DEVICES
+done
+rm ./*
+
+# Strings in JSON hold UTF-8 as it is; every other byte stands as \xNN.
+bundle 0 >none
+# string BYTES JSON
+string() {
+  expect 1 "$(object none 9 QUERY "\"device\":\"${2//\\/\\\\}\",")" '' pick --json none "$1"
+}
+string 'a b/~' 'a b/~'
+string $'"\\' $'\\"\\\\'
+string $'\x01\t\n\x1f\x7f' $'\\u0001\\u0009\\u000a\\u001f\x7f'
+string $'caf\xc3\xa9 \xe2\x82\xac \xf0\x9f\x98\x80' $'caf\xc3\xa9 \xe2\x82\xac \xf0\x9f\x98\x80'
+string $'\x80\xbf' '\\x80\\xbf'
+string $'\xc1\xbf\xc2\x80' $'\\\\xc1\\\\xbf\xc2\x80'
+string $'\xe0\x9f\xbf\xe0\xa0\x80' $'\\\\xe0\\\\x9f\\\\xbf\xe0\xa0\x80'
+string $'\xed\xa0\x80\xed\x9f\xbf' $'\\\\xed\\\\xa0\\\\x80\xed\x9f\xbf'
+string $'\xf0\x8f\xbf\xbf\xf0\x90\x80\x80' $'\\\\xf0\\\\x8f\\\\xbf\\\\xbf\xf0\x90\x80\x80'
+string $'\xf4\x90\x80\x80\xf4\x8f\xbf\xbf' $'\\\\xf4\\\\x90\\\\x80\\\\x80\xf4\x8f\xbf\xbf'
+string $'\xf5\x80\x80\x80\xff' '\\xf5\\x80\\x80\\x80\\xff'
+string $'\xe2\x82' '\\xe2\\x82'
+string $'\xe2\x82a\xf0\x90\x80' '\\xe2\\x82a\\xf0\\x90\\x80'
+name=$'b\xff"\\\n'
+mv none "$name"
+expect 0 '{"file":"b\\\\xff\\"\\\\\\u000a","number":0,*}' '' check --json "$name"
 rm ./*
 
 # Normal forms: accepted, their own normal form, and with the same images.
 for sample in three-cards aligned kinds host-only five-fields; do
   expect 0 'written, length *' '' normalise "$samples/bundles/$sample.bundle" -o normal
   expect 0 'accepted, entries [1-8]' '' check normal
-  expect 0 "written, length $(stat -c %s normal)" '' normalise normal -o again
+  expect 0 "written, length $(stat -c %s normal)" '' normalize normal -o again
   same again normal
 done
-expect 0 'entry *, position *, size *' '' pick normal hip-amdgcn-amd-amdhsa-gfx906:xnack+:sramecc- -o image
+expect 0 'entry *, offset *, size *' '' pick normal hip-amdgcn-amd-amdhsa-gfx906:xnack+:sramecc- -o image
 same image "$samples/images/gfx906-sramecc-xnack+.o"
 cp "$cards" same
 expect 0 'written, length *' '' normalise same -o same
-expect 0 'written, length *' '' normalise "$cards" -o normal
+expect 0 "{\"file\":\"$cards\",\"number\":0,\"name\":\"OK\",\"length\":17170}" '' normalise "$cards" -o normal --json
 same same normal
 holds again image normal same
 rm ./*
 
 # An image that entries share stands once for each of them.
-ids=()
-for k in {10..73}; do ids+=("host-a$k-b-c"); done
 { bundle 5 "${ids[@]}"; printf image; } >shared
 expect 0 "written, length $((32 + 64 * (24 + 12 + 2 + 5)))" '' normalise shared -o normal
-expect 0 'entry 63, position *, size 5' '' pick normal host-a73-b-c -o image
-[ "$(<image)" = image ] || fail 'an image that was shared'
+expect 0 'entry 63, offset *, size 5' '' pick normal host-a73-b-c -o image
+is 'an image that was shared' "$(<image)" image
 bundle $((17 << 20)) "${ids[@]}" >big
 truncate -s $((18 << 20)) big
 expect 0 'accepted, entries 64' '' check big
-expect 1 '' "$(refusal big '11 BIG' 0)" normalise big -o out
+expect 1 '' "$(refusal big '11 BIG')" normalise big -o out
+expect 1 "$(object big 11 BIG)" '' normalise big -o out --json
 head -c -1 shared >short
-expect 1 '' "$(refusal short '6 RANGE' 0)" normalise short -o out
+expect 1 '' "$(refusal short '6 RANGE' 'entry 0 "host-a10-b-c" (offset 2336, size 5 in a file of 2340 bytes)')" normalise short -o out
 holds big image normal shared short
 rm ./*
 
+# Standard input and standard output.
+expect 0 'accepted, entries 8' '' check - <"$cards"
+expect 0 'accepted, entries 8' '' check -- - < <(cat "$cards")
+expect 0 '{"file":"-","number":0,"name":"OK","entries":8}' '' check - --json <"$cards"
+expect 0 'entry 7, *' '' pick - "${gfx}1030" -o out <"$cards"
+same out "$samples/images/gfx1030.o"
+# written ERROR FILE WORD..: standard output gets what FILE holds, standard error the answer.
+written() {
+  local error=$1 file=$2
+  shift 2
+  timeout 60 "$offload" "$@" >../output 2>../error || fail "offload $*: status $?"
+  same ../output "$file"
+  # shellcheck disable=SC2053
+  [[ $(<../error) == $error ]] || fail "offload $*: error: $(<../error)"
+}
+written 'entry 7, offset 14922, size 2248' out pick "$cards" "${gfx}1030" -o -
+written '{"file":"-",*"size":2248}' out pick - "${gfx}1030" --json -o - <"$cards"
+expect 0 'written, *' '' normalise "$cards" -o normal
+written 'written, length 17170' normal normalise "$cards" -o -
+written '{"file":"-",*"length":17170}' normal normalise -o - - --json < <(cat "$cards")
+holds normal out
+rm ./*
+
 # Files that cannot be read or written: a reason, and no file is left.
-mkfifo pipe
 mkdir closed
 expect 3 '' 'offload: cannot read missing: No such file or directory' check missing
-expect 3 '' 'offload: cannot read pipe: Not a regular file' check pipe
-expect 3 '' 'offload: cannot read closed: Not a regular file' pick closed "${gfx}1030"
+expect 3 '{"file":"missing","cannot":"read","reason":"No such file or directory"}' '' list --json missing
+expect 3 '' 'offload: cannot read closed: Is a directory' pick closed "${gfx}1030"
+expect 3 '' 'offload: cannot read standard input: Is a directory' check - <closed
 expect 3 '' 'offload: cannot write missing/out: No such file or directory' pick "$cards" "${gfx}1030" -o missing/out
-expect 3 '' 'offload: cannot write closed: Not a regular file' pick "$cards" "${gfx}1030" -o closed
-expect 3 '' 'offload: cannot write pipe: Not a regular file' pick "$cards" "${gfx}1030" -o pipe
+expect 3 '{"file":"missing/out","cannot":"write","reason":"No such file or directory"}' '' normalise "$cards" -o missing/out --json
 (
   ulimit -f 1
   expect 3 '' 'offload: cannot write out: File too large' pick "$cards" "${gfx}1030" -o out
   exit $wrong
 ) || wrong=1
-holds closed pipe
-"$offload" check "$cards" >/dev/full 2>../error
-[ "$? $(<../error)" = '3 offload: cannot write standard output: No space left on device' ] || fail 'a full standard output'
-rm -r ./*
-
-# A new file has the mode that any new file has; an old one may be the bundle itself.
-cp "$cards" bundle
-(umask 027 && "$offload" pick bundle "${gfx}1030" -o bundle >../output) || fail 'a bundle replaced by its image'
-same bundle "$samples/images/gfx1030.o"
-[ "$(stat -c %a bundle)" = 640 ] || fail "mode $(stat -c %a bundle)"
-holds bundle
+holds closed
+# full WORD..: standard output takes nothing.
+full() {
+  "$offload" "$@" >/dev/full 2>../error
+  is "offload $*" "$? $(<../error)" '3 offload: cannot write standard output: No space left on device'
+}
+full check "$cards"
+full list "$cards" --json
+full explain "$cards" "${gfx}1030"
+full pick "$cards" "${gfx}1030" -o -
+full help
 
 [ $wrong = 0 ] && echo "offload: $tried answers as expected"
 exit $wrong

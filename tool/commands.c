@@ -1,78 +1,64 @@
 #include "commands.h"
 
-#include "offload.h"
-#include "refusal.h"
-
-#include <inttypes.h>
-#include <stdio.h>
-#include <stdlib.h>
 #include <string.h>
 
-enum status cannot(const char *what, const char *path, const char *failure) {
-    fprintf(stderr, "offload: cannot %s %s: %s\n", what, path, failure);
-    return FILE_FAILURE;
-}
+const struct command commands[] = {
+    {
+        .name = "check",
+        .operands = {"FILE"},
+        .files = 1,
+        .run = check,
+        .summary = "say whether a bundle is accepted",
+        .help = "Says that a bundle is accepted and how many entries it has, or why it is refused: the number and name of the rule,\n"
+                "the entry that breaks it, what that means and what to do.\n",
+    },
+    {
+        .name = "list",
+        .operands = {"FILE"},
+        .files = 1,
+        .run = list,
+        .summary = "list the entries of a bundle",
+        .help = "Prints a line for each entry: its index, the offset and the size of its image in bytes, its ID in canonical form,\n"
+                "and the ID as it is spelled in the file where that differs.\n",
+    },
+    {
+        .name = "pick",
+        .operands = {"FILE", "DEVICE"},
+        .files = 1,
+        .output = MAY_HAVE_OUTPUT,
+        .run = pick,
+        .summary = "find the image for a device; with -o, write it",
+        .help = "Finds the one entry that fits the device, and says its index and the offset and size of its image in bytes.\n"
+                "With -o, the image is written to OUT, whole or not at all.\n",
+    },
+    {
+        .name = "explain",
+        .operands = {"FILE", "DEVICE"},
+        .files = 1,
+        .run = explain,
+        .summary = "say for each entry why it does not fit a device",
+        .help = "Prints a line for each entry, the nearest first: its index, its ID in canonical form, and the first reason why it does\n"
+                "not fit the device: kind, arch, vendor, system, environment, processor, a feature that the device does not state, or\n"
+                "one that it states with the other sign. The entry that fits says so.\n",
+    },
+    {
+        .name = "normalise",
+        .other_name = "normalize",
+        .operands = {"FILE"},
+        .files = 1,
+        .output = NEEDS_OUTPUT,
+        .run = normalise,
+        .summary = "write a bundle's normal form",
+        .help = "Writes the normal form of a bundle to OUT, whole or not at all: entries sorted by canonical ID, images packed after the\n"
+                "table. Bundles that hold the same entries have the same normal form, byte for byte. OUT may be FILE.\n",
+    },
+    {.name = NULL},
+};
 
-static enum status refuse(const struct request *request, uint64_t number, uint64_t place) {
-    fprintf(stderr, "offload: %s: %" PRIu64 " %s, place %" PRIu64 ": %s\n", request->path, number, refusal_name(number),
-            place, refusal_sentence(number));
-    return REFUSED;
-}
-
-enum status check(const struct request *request) {
-    struct bytes bundle = request->bundle;
-    uint64_t number = offload_check_number(bundle.start, bundle.length);
-    if (number != OFFLOAD_OK)
-        return refuse(request, number, offload_check_place(bundle.start, bundle.length));
-    printf("accepted, entries %" PRIu64 "\n", offload_check_count(bundle.start, bundle.length));
-    return ACCEPTED;
-}
-
-enum status pick(const struct request *request) {
-    struct bytes bundle = request->bundle, image;
-    const uint8_t *name = (const uint8_t *)request->device;
-    size_t length = strlen(request->device);
-    const char *failure = NULL;
-    uint64_t number = offload_pick_number(bundle.start, bundle.length, name, length), position;
-    if (number != OFFLOAD_OK)
-        return refuse(request, number, offload_pick_place(bundle.start, bundle.length, name, length));
-    position = offload_pick_position(bundle.start, bundle.length, name, length);
-    image.start = bundle.start + position;
-    image.length = offload_pick_size(bundle.start, bundle.length, name, length);
-    if (request->output != NULL)
-        failure = file_write(request->output, image);
-    if (failure != NULL)
-        return cannot("write", request->output, failure);
-    printf("entry %" PRIu64 ", position %" PRIu64 ", size %zu\n",
-           offload_pick_index(bundle.start, bundle.length, name, length), position, image.length);
-    return ACCEPTED;
-}
-
-/* The normal form of a bundle that lacks nothing but room, in memory of its own; null where there is not enough memory.
- * An ID grows by two dashes at most, so the first room is enough unless images share bytes; then it is doubled. */
-static struct bytes normal_form(struct bytes bundle) {
-    size_t room = bundle.length + 2 * OFFLOAD_ENTRIES;
-    for (;; room *= 2) {
-        uint8_t *out = malloc(room);
-        uint64_t length = out == NULL ? 0 : offload_normalise_length(bundle.start, bundle.length, out, room);
-        struct bytes normal = {out, length};
-        if (out == NULL || length > 0)
-            return normal;
-        free(out);
-    }
-}
-
-enum status normalise(const struct request *request) {
-    struct bytes bundle = request->bundle, normal;
-    uint8_t none[1];
-    const char *failure;
-    uint64_t number = offload_normalise_number(bundle.start, bundle.length, none, 0);
-    if (number != OFFLOAD_ROOM)
-        return refuse(request, number, offload_normalise_place(bundle.start, bundle.length, none, 0));
-    normal = normal_form(bundle);
-    failure = normal.start == NULL ? "Not enough memory" : file_write(request->output, normal);
-    if (failure != NULL)
-        return cannot("write", request->output, failure);
-    printf("written, length %zu\n", normal.length);
-    return ACCEPTED;
+const struct command *find_command(const char *name) {
+    const struct command *command;
+    for (command = commands; command->name != NULL; command++)
+        if (strcmp(name, command->name) == 0 || (command->other_name != NULL && strcmp(name, command->other_name) == 0))
+            return command;
+    return NULL;
 }

@@ -4,21 +4,44 @@
 
 #include "file.h"
 
-enum status { ACCEPTED = 0, REFUSED = 1, BAD_USAGE = 2, FILE_FAILURE = 3 };
+#include <stdio.h>
 
-/* What a command works on: the bundle with its path, and for some a device name and the path of an output, else null. */
+enum status { ACCEPTED = 0, REFUSED = 1, BAD_USAGE = 2, FILE_FAILURE = 3, NO_IMAGE = 4 };
+
+enum { OPERANDS = 2 }; /* the most that a command takes */
+
+/* What a command is asked: its operands, those that are files with what they hold, and its options. */
 struct request {
-    const char *path;
-    struct bytes bundle;
-    const char *device;
-    const char *output;
+    const char *operands[OPERANDS];
+    struct bytes files[OPERANDS];
+    const char *output; /* the path of the output, or null */
+    int json;           /* whether to answer in JSON */
+    FILE *answer;       /* standard output; standard error where the output goes to standard output */
 };
 
-enum status check(const struct request *request);
-enum status pick(const struct request *request);
-enum status normalise(const struct request *request);
+enum output { NO_OUTPUT, MAY_HAVE_OUTPUT, NEEDS_OUTPUT };
 
-/* Says on standard error that a file cannot be read or written, and why. */
-enum status cannot(const char *what, const char *path, const char *failure);
+struct command {
+    const char *name;
+    const char *other_name;             /* or null */
+    const char *operands[OPERANDS + 1]; /* what the help calls them; the last is null */
+    int files;                          /* how many of them are files, which come first */
+    enum output output;
+    enum status (*run)(const struct request *request);
+    const char *summary; /* one line */
+    const char *help;    /* the rest */
+};
+
+/* Every command; the last has no name. */
+extern const struct command commands[];
+
+/* The command of a name, or null. */
+const struct command *find_command(const char *name);
+
+enum status check(const struct request *request);
+enum status list(const struct request *request);
+enum status pick(const struct request *request);
+enum status explain(const struct request *request);
+enum status normalise(const struct request *request);
 
 #endif

@@ -1,37 +1,60 @@
 #include "refusal.h"
 
-#include "offload.h"
+#include "entry_id.h"
+#include "text.h"
 
-struct refusal {
-    const char *name;
-    const char *sentence;
+/* Two IDs of one kind, triple and processor. */
+struct pair {
+    struct canonical forms[2];
+    struct parts left;
+    struct parts right;
 };
+
+/* Cuts the IDs of two rows; 0 where one of them breaks the rules, or where kind, triple or processor differ. */
+static int cut_both(struct row left, struct row right, struct pair *pair) {
+    if (!canonical_form(left.id, &pair->forms[0]) || !canonical_form(right.id, &pair->forms[1]))
+        return 0;
+    pair->left = parts_of(&pair->forms[0]);
+    pair->right = parts_of(&pair->forms[1]);
+    return first_difference(&pair->left, &pair->right) == FIELDS;
+}
+
+static int same_meaning(struct row earlier, struct row row) {
+    struct pair pair;
+    return cut_both(earlier, row, &pair) && same_bytes(pair.left.features, pair.right.features);
+}
+
+static int other_names(struct row earlier, struct row row) {
+    struct pair pair;
+    return cut_both(earlier, row, &pair) && !same_names(pair.left.features, pair.right.features);
+}
+
+static const char again[] = "The file is cut short or damaged: copy it or make it again.";
 
 static const struct refusal refusals[] = {
-    [OFFLOAD_OK] = {"OK", "It is accepted."},
-    [OFFLOAD_LENGTH] = {"LENGTH", "The file is longer than 1073741824 bytes."},
-    [OFFLOAD_MAGIC] = {"MAGIC", "The file does not begin with __CLANG_OFFLOAD_BUNDLE__, so it is no binary bundle (compressed and text bundles are not read)."},
-    [OFFLOAD_COUNT] = {"COUNT", "The file ends before the number of entries, or the number is above 64."},
-    [OFFLOAD_TABLE] = {"TABLE", "The entry at this place does not lie wholly in the file, or its ID is not 1 to 256 bytes long."},
-    [OFFLOAD_ID] = {"ID", "The ID of the entry at this place is not written as an entry ID must be (offload --help)."},
-    [OFFLOAD_RANGE] = {"RANGE", "The image of the entry at this place starts inside the table or ends after the end of the file."},
-    [OFFLOAD_TWICE] = {"TWICE", "An earlier entry means the same as the entry at this place."},
-    [OFFLOAD_MIXED] = {"MIXED", "An earlier entry of the same kind, triple and processor states other feature names than the entry at this place."},
-    [OFFLOAD_QUERY] = {"QUERY", "The device name is not written as an entry ID must be (offload --help)."},
-    [OFFLOAD_NONE] = {"NONE", "No entry is for this kind, triple and processor and states only features that the device name states with the same sign."},
-    [OFFLOAD_BIG] = {"BIG", "The normal form would be longer than 1073741824 bytes."},
-    [OFFLOAD_ROOM] = {"ROOM", "The output is too short for the normal form."},
+    [OFFLOAD_LENGTH] = {NAMES_FILE, "The file is longer than 1073741824 bytes.", "Make smaller bundles: none above this length is read.", NULL},
+    [OFFLOAD_MAGIC] = {NAMES_FILE, "The file does not begin with " BUNDLE_MAGIC ", so it is no binary bundle.", NULL, NULL},
+    [OFFLOAD_COUNT] = {NAMES_FILE, "The file ends before the number of entries, or the number is above 64.",
+                       "The file is cut short or damaged, or has more entries than are read: copy it, or make it again with fewer.", NULL},
+    [OFFLOAD_TABLE] = {NAMES_ENTRY, "The entry does not lie wholly in the file, or its ID is not 1 to 256 bytes long.", again, NULL},
+    [OFFLOAD_ID] = {NAMES_ID, "The ID of the entry is not written as an entry ID must be.",
+                    "Make the bundle again with an ID that keeps the rules: offload help id.", NULL},
+    [OFFLOAD_RANGE] = {NAMES_IMAGE, "The image of the entry begins inside the table or ends after the end of the file.", again, NULL},
+    [OFFLOAD_TWICE] = {NAMES_ID, "An earlier entry has the same meaning.", "Make the bundle again with one of the two.", same_meaning},
+    [OFFLOAD_MIXED] = {NAMES_ID, "An earlier entry of the same kind, triple and processor states other feature names.",
+                       "Make the bundle again so that all entries of a processor state the same features.", other_names},
+    [OFFLOAD_QUERY] = {NAMES_DEVICE, "The device name is not written as an entry ID must be.",
+                       "Write it like hip-amdgcn-amd-amdhsa--gfx906:sramecc+:xnack- (offload help id).", NULL},
+    [OFFLOAD_NONE] = {NAMES_DEVICE,
+                      "No entry fits this device: kind, triple and processor must be equal, and every feature that the entry states must be stated "
+                      "by the device with the same sign.",
+                      "offload explain FILE DEVICE says for each entry why it does not fit.", NULL},
+    [OFFLOAD_BIG] = {NAMES_FILE, "The normal form would be longer than 1073741824 bytes.",
+                     "A normal form holds an image for each entry, also where entries share one: use the bundle as it is.", NULL},
 };
 
-static struct refusal refusal(uint64_t number) {
-    static const struct refusal unknown = {"UNKNOWN", "This tool does not know the number."};
-    return number < sizeof refusals / sizeof *refusals ? refusals[number] : unknown;
-}
-
-const char *refusal_name(uint64_t number) {
-    return refusal(number).name;
-}
-
-const char *refusal_sentence(uint64_t number) {
-    return refusal(number).sentence;
+struct refusal refusal_of(uint64_t number) {
+    static const struct refusal unknown = {NAMES_FILE, "This tool does not know the number.", "Build the tool with the library that it calls.", NULL};
+    int known = number < sizeof refusals / sizeof *refusals && refusals[number].sentence != NULL;
+    return known ? refusals[number] : unknown;
 }

@@ -7,7 +7,7 @@ use second::families::binaries::Binaries;
 use second::families::bundles::Bundles;
 use second::families::Family;
 use second::gen::random::Random;
-use second::model::bundle::{Checked, Picked};
+use second::model::bundle::{Checked, Located, Picked};
 use second::model::Written;
 
 #[repr(C)]
@@ -27,6 +27,16 @@ struct CPicked {
 }
 
 #[repr(C)]
+struct CLocated {
+    number: u64,
+    place: u64,
+    position: u64,
+    size: u64,
+    id_position: u64,
+    id_length: u64,
+}
+
+#[repr(C)]
 struct CWritten {
     number: u64,
     place: u64,
@@ -36,6 +46,7 @@ struct CWritten {
 extern "C" {
     fn baseline_check(bundle: *const u8, length: usize) -> CChecked;
     fn baseline_pick(bundle: *const u8, length: usize, device: *const u8, device_length: usize) -> CPicked;
+    fn baseline_entry(bundle: *const u8, length: usize, index: u64) -> CLocated;
     fn baseline_normalise(bundle: *const u8, length: usize, out: *mut u8, room: usize) -> CWritten;
 }
 
@@ -52,6 +63,13 @@ pub fn pick(bundle: &[u8], device: &[u8]) -> Picked {
     Picked { number, place, index, position, size }
 }
 
+pub fn entry(bundle: &[u8], index: u64) -> Located {
+    // SAFETY: the slice is as long as it says.
+    let located = unsafe { baseline_entry(bundle.as_ptr(), bundle.len(), index) };
+    let CLocated { number, place, position, size, id_position, id_length } = located;
+    Located { number, place, position, size, id_position, id_length }
+}
+
 pub fn normalise(bundle: &[u8], out: &mut [u8]) -> Written {
     // SAFETY: the slices are as long as they say, and the output shares no byte with the bundle.
     let written = unsafe { baseline_normalise(bundle.as_ptr(), bundle.len(), out.as_mut_ptr(), out.len()) };
@@ -60,7 +78,7 @@ pub fn normalise(bundle: &[u8], out: &mut [u8]) -> Written {
 }
 
 const CALLS: BundleCalls =
-    BundleCalls { check, pick, normalise: |bundle, out, field| field.of(normalise(bundle, out)) };
+    BundleCalls { check, pick, entry, normalise: |bundle, out, field| field.of(normalise(bundle, out)) };
 
 /// Compares the baseline with the second program on the samples and on generated containers; ends the program where it differs.
 pub fn compare(cases: u64) {

@@ -1,4 +1,4 @@
-//! Check, pick and normalise over bundles of 1 to 64 entries, and normalise over images of many sizes.
+//! Check, pick, entry and normalise over bundles of 1 to 64 entries, and normalise over images of many sizes.
 
 use crate::clock::{black_box, job, time, Timed, Whose};
 use crate::table::{self, bytes, digits, Table};
@@ -23,6 +23,13 @@ fn pick(bundle: &[u8], device: &[u8]) -> Vec<Timed> {
     time(Whose::Thread, vec![library, second, plain])
 }
 
+fn entry(bundle: &[u8], index: usize) -> Vec<Timed> {
+    let library = job(|| library::entry(black_box(bundle), index));
+    let second = job(|| model::entry_at(black_box(bundle), index as u64));
+    let plain = job(|| baseline::entry(black_box(bundle), index as u64));
+    time(Whose::Thread, vec![library, second, plain])
+}
+
 /// All write to one output, since the places of two buffers in memory make a difference of their own.
 fn normalise(bundle: &[u8]) -> Vec<Timed> {
     let out = &RefCell::new(bundle.to_vec());
@@ -43,8 +50,8 @@ fn copy(bundle: &[u8]) -> Vec<Timed> {
 
 pub fn jobs() {
     let table = Table::new(
-        "Check, pick and normalise",
-        "Time of one call. Images of 2 KiB; the pick is for the last entry.",
+        "Check, pick, entry and normalise",
+        "Time of one call. Images of 2 KiB; pick and entry are for the last entry.",
         &["Job", "Entries", "Library", "Second program", "Plain C", "Library / plain C"],
     );
     for entries in [1, 16, 64] {
@@ -54,6 +61,10 @@ pub fn jobs() {
     for entries in [1, 16, 64] {
         let bundle = sample::bundle(entries, IMAGE);
         row(&table, "pick", entries, &pick(&bundle, sample::id(entries - 1).as_bytes()));
+    }
+    for entries in [1, 16, 64] {
+        let bundle = sample::bundle(entries, IMAGE);
+        row(&table, "entry", entries, &entry(&bundle, entries - 1));
     }
     for entries in [1, 16, 64] {
         let bundle = sample::bundle(entries, IMAGE);

@@ -3,6 +3,7 @@
 extern "C" {
     fn offload_check_number(bundle: *const u8, bundle_length: usize) -> u64;
     fn offload_pick_number(bundle: *const u8, bundle_length: usize, device: *const u8, device_length: usize) -> u64;
+    fn offload_entry_number(bundle: *const u8, bundle_length: usize, index: usize) -> u64;
     fn offload_normalise_length(bundle: *const u8, bundle_length: usize, out: *mut u8, out_length: usize) -> u64;
     fn offload_binaries_next_size(binaries: *const u8, length: usize, position: usize, taken: usize) -> u64;
 }
@@ -15,6 +16,11 @@ pub fn check(bundle: &[u8]) -> u64 {
 pub fn pick(bundle: &[u8], device: &[u8]) -> u64 {
     // SAFETY: the slices are as long as they say.
     unsafe { offload_pick_number(bundle.as_ptr(), bundle.len(), device.as_ptr(), device.len()) }
+}
+
+pub fn entry(bundle: &[u8], index: usize) -> u64 {
+    // SAFETY: the slice is as long as it says.
+    unsafe { offload_entry_number(bundle.as_ptr(), bundle.len(), index) }
 }
 
 pub fn normalise(bundle: &[u8], out: &mut [u8]) -> u64 {

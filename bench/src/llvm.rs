@@ -44,7 +44,7 @@ pub fn jobs(tool: &str, folder: &str) {
     let table = Table::new(
         "The tool and LLVM's bundler",
         &format!(
-            "Processor time of a whole process. LLVM's is `{bundler}` with `-list`, with `-unbundle`, and, since it has \
+            "Processor time of a whole process. LLVM's is `{bundler}` with `-list`, with `-unbundle`, and, since it has\n\
              nothing like normalise, bundling the same images."
         ),
         &["Job", "Entries", "offload", "LLVM", "LLVM / offload"],

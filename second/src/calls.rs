@@ -2,7 +2,7 @@
 
 use crate::model::binaries::{Binary, Cursor};
 use crate::model::binary_writer::Content;
-use crate::model::bundle::{Checked, Picked};
+use crate::model::bundle::{Checked, Located, Picked};
 use crate::model::bundle_writer::Record;
 use crate::model::{binaries, binary_writer, bundle, bundle_writer, Written};
 
@@ -28,6 +28,7 @@ impl Field {
 pub struct BundleCalls {
     pub check: fn(&[u8]) -> Checked,
     pub pick: fn(&[u8], &[u8]) -> Picked,
+    pub entry: fn(&[u8], u64) -> Located,
     pub normalise: fn(&[u8], &mut [u8], Field) -> u64,
 }
 
@@ -39,6 +40,7 @@ pub type BinaryWriter = fn(&Content, &[u8], &[u8], &mut [u8], Field) -> u64;
 pub const MODEL: BundleCalls = BundleCalls {
     check: bundle::check,
     pick: bundle::pick,
+    entry: bundle::entry_at,
     normalise: |bundle, out, field| field.of(bundle::normalise(bundle, out)),
 };
 pub const MODEL_BUNDLE_WRITER: BundleWriter =

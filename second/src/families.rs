@@ -10,7 +10,7 @@ use crate::calls::Field;
 use crate::gen::random::Random;
 use crate::gen::{Aim, Room};
 use crate::guard::Output;
-use crate::model::{Written, BIG, OK, ROOM, SIZE_LIMIT};
+use crate::model::{Written, BIG, NUMBERS, OK, ROOM, SIZE_LIMIT};
 use std::fmt::Debug;
 
 /// A case in which the library does not answer as the model does.
@@ -59,7 +59,7 @@ pub const WRITTEN: &str = "the lent output holds the bytes of the model, and not
 pub struct Tally {
     pub call: &'static str,
     pub must_come: &'static [u64],
-    pub seen: [u64; 20],
+    pub seen: [u64; NUMBERS],
 }
 
 /// How often a case was aimed at a line, and how often it met it.
@@ -81,7 +81,7 @@ pub struct Report {
 
 impl Report {
     pub fn new<D>(calls: &[(&'static str, &'static [u64])], aims: &[Aim<D>]) -> Report {
-        let tally = |(call, must_come): &(&'static str, &'static [u64])| Tally { call, must_come, seen: [0; 20] };
+        let tally = |(call, must_come): &(&'static str, &'static [u64])| Tally { call, must_come, seen: [0; NUMBERS] };
         let aim =
             |aim: &Aim<D>| AimTally { name: aim.name.clone(), call: aim.call, number: aim.number, tried: 0, met: 0 };
         Report {

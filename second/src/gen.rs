@@ -14,7 +14,7 @@ use random::Random;
 /// What an aim does to a case that is being made.
 pub type Make<Draft> = Box<dyn Fn(&mut Draft, &mut Random)>;
 
-/// One thing a case can be aimed at: a line of document 01, on one side. The number is what the call has to give.
+/// One thing a case can be aimed at: one side of a line that RULES draws. The number is what the call has to give.
 pub struct Aim<Draft> {
     pub name: String,
     pub call: &'static str,

@@ -1,4 +1,4 @@
-//! A second implementation of the rules of document 01 (`model`), and what compares the library with it: a generator of cases (`gen`),
+//! A second implementation of the rules in docs/RULES.md (`model`), and what compares the library with it: a generator of cases (`gen`),
 //! memory that shows a byte read past its end (`guard`), the library's calls (`calls`), real files (`samples`) and the comparison
 //! (`families`).
 

@@ -4,7 +4,7 @@
 use second::calls::{BundleCalls, Field};
 use second::model::binaries::{Binary, Cursor, Pair};
 use second::model::binary_writer::Content;
-use second::model::bundle::{Checked, Picked};
+use second::model::bundle::{Checked, Located, Picked};
 use second::model::bundle_writer::Record;
 
 #[link(name = "offload", kind = "static")]
@@ -17,6 +17,12 @@ extern "C" {
     fn offload_pick_index(bundle: *const u8, length: usize, device: *const u8, device_length: usize) -> u64;
     fn offload_pick_position(bundle: *const u8, length: usize, device: *const u8, device_length: usize) -> u64;
     fn offload_pick_size(bundle: *const u8, length: usize, device: *const u8, device_length: usize) -> u64;
+    fn offload_entry_number(bundle: *const u8, length: usize, index: usize) -> u64;
+    fn offload_entry_place(bundle: *const u8, length: usize, index: usize) -> u64;
+    fn offload_entry_position(bundle: *const u8, length: usize, index: usize) -> u64;
+    fn offload_entry_size(bundle: *const u8, length: usize, index: usize) -> u64;
+    fn offload_entry_id_position(bundle: *const u8, length: usize, index: usize) -> u64;
+    fn offload_entry_id_length(bundle: *const u8, length: usize, index: usize) -> u64;
     fn offload_normalise_number(bundle: *const u8, length: usize, out: *mut u8, room: usize) -> u64;
     fn offload_normalise_place(bundle: *const u8, length: usize, out: *mut u8, room: usize) -> u64;
     fn offload_normalise_length(bundle: *const u8, length: usize, out: *mut u8, room: usize) -> u64;
@@ -76,7 +82,7 @@ struct StringPair {
     text_len: u64,
 }
 
-pub const BUNDLES: BundleCalls = BundleCalls { check, pick, normalise };
+pub const BUNDLES: BundleCalls = BundleCalls { check, pick, entry, normalise };
 
 fn check(bundle: &[u8]) -> Checked {
     let (start, length) = (bundle.as_ptr(), bundle.len());
@@ -101,6 +107,21 @@ fn pick(bundle: &[u8], device: &[u8]) -> Picked {
             index: offload_pick_index(start, length, name, name_length),
             position: offload_pick_position(start, length, name, name_length),
             size: offload_pick_size(start, length, name, name_length),
+        }
+    }
+}
+
+fn entry(bundle: &[u8], index: u64) -> Located {
+    let (start, length, index) = (bundle.as_ptr(), bundle.len(), index as usize);
+    // SAFETY: the slice is as long as it says.
+    unsafe {
+        Located {
+            number: offload_entry_number(start, length, index),
+            place: offload_entry_place(start, length, index),
+            position: offload_entry_position(start, length, index),
+            size: offload_entry_size(start, length, index),
+            id_position: offload_entry_id_position(start, length, index),
+            id_length: offload_entry_id_length(start, length, index),
         }
     }
 }

@@ -12,14 +12,15 @@ use second::families::writers::Writers;
 use second::families::{Difference, Family, Report};
 use second::gen::random::Random;
 use second::gen::{binary_contents, records};
+use second::model::NUMBERS;
 use std::path::{Path, PathBuf};
 use std::process::{exit, Child, Command, Stdio};
 use std::sync::atomic::{AtomicPtr, Ordering::Relaxed};
 use std::time::Instant;
 
-const NAMES: [&str; 20] = [
+const NAMES: [&str; NUMBERS] = [
     "OK", "LENGTH", "MAGIC", "COUNT", "TABLE", "ID", "RANGE", "TWICE", "MIXED", "QUERY", "NONE", "BIG", "ROOM", "HEAD",
-    "SPAN", "KIND", "STRINGS", "IMAGE", "MANY", "END",
+    "SPAN", "KIND", "STRINGS", "IMAGE", "MANY", "END", "CLASH", "OVERLAP", "FOREIGN", "RACK",
 ];
 
 struct Options {

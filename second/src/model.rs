@@ -1,4 +1,5 @@
-//! The rules of document 01, written down a second time, sentence by sentence. Sums are made in 128 bits, so none wraps.
+//! The rules written a second time, sentence by sentence, from the requirements alone, which docs/RULES.md restates: words in quotation
+//! marks are theirs. Sums are made in 128 bits, so none wraps.
 
 pub mod binaries;
 pub mod binary_writer;
@@ -31,6 +32,8 @@ pub const STRINGS: u64 = 16;
 pub const IMAGE: u64 = 17;
 pub const MANY: u64 = 18;
 pub const END: u64 = 19;
+/// How many numbers a tally has room for: those that later calls return go up to 23.
+pub const NUMBERS: usize = 24;
 
 // "Sizes".
 pub const SIZE_LIMIT: u128 = 1_073_741_824;

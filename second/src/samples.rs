@@ -207,13 +207,32 @@ pub const BINARIES: &[BinariesSample] = &[
             },
         ],
     },
+    BinariesSample {
+        name: "small",
+        bytes: sample!("binaries/small.bin"),
+        binaries: &[
+            BinarySample {
+                image_kind: 0,
+                offload_kind: 3,
+                image: b"",
+                pairs: &[("triple", "amdgcn-amd-amdhsa"), ("arch", "gfx906")],
+            },
+            BinarySample {
+                image_kind: 0,
+                offload_kind: 2,
+                image: b"",
+                pairs: &[("triple", "nvptx64-nvidia-cuda"), ("arch", "sm_70")],
+            },
+        ],
+    },
 ];
 
 #[cfg(test)]
 mod tests {
     use super::*;
     use crate::model::binaries::read_all;
-    use crate::model::bundle::{check, pick, Checked};
+    use crate::model::bundle::{check, entry_at, pick, Checked};
+    use crate::model::id::{canonical, meaning};
     use crate::model::{END, NONE, QUERY};
     use std::collections::BTreeSet;
 
@@ -227,6 +246,10 @@ mod tests {
                 assert_eq!((picked.number, picked.index), (OK, index as u64), "{}: {id}", sample.name);
                 let found = &sample.bytes[picked.position as usize..][..picked.size as usize];
                 assert!(found == *image, "{}: {id}", sample.name);
+                let located = entry_at(sample.bytes, index as u64);
+                assert_eq!((located.position, located.size), (picked.position, picked.size), "{}: {id}", sample.name);
+                let spelled = &sample.bytes[located.id_position as usize..][..located.id_length as usize];
+                assert_eq!(meaning(spelled).map(|entry| canonical(&entry)), Some(id.as_bytes().to_vec()));
             }
         }
     }

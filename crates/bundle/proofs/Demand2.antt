@@ -18,6 +18,7 @@ use Rattle.bundle.specs.Pick.{compatibleAt}
 use Rattle.bundle.specs.Demand2.{ByMeaning, Demand2}
 use Rattle.bundle.proofs.PlaceLaws.{place-exact}
 use Rattle.bundle.proofs.Theorems.{check-exact, pick-exact, framed-exact, table-decides}
+use Rattle.bundle.proofs.EntryAtLaws.{entry-exact}
 use Rattle.bundle.proofs.WriterLaws.{writes-read}
 
 some : (l : List ℕ) → 1 ≤ length l → empty l ≡ false
@@ -47,6 +48,7 @@ demand2 = record {
   checked = λ s. check-exact idRules s;
   places = λ s. place-exact idRules s;
   picked = λ s device. pick-exact idRules idRules-lawful s device;
+  entry = λ s i. entry-exact idRules s i;
   framed = framed-exact;
   table-decides = table-decides idRules;
   written = writes-read idRules idRules-lawful;

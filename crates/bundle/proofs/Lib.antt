@@ -5,6 +5,7 @@ pub mod EntryLaws
 pub mod PickLaws
 pub mod TableLaws
 pub mod Theorems
+pub mod EntryAtLaws
 pub mod LayoutLaws
 pub mod ReadBack
 pub mod PackLaws

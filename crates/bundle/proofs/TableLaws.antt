@@ -26,7 +26,7 @@ part-agree s t from n e h =
     let b : i < n = omega (arith, simp (length-take, length-drop) at l) in
     getD-take n (drop from s) i 0 b ∙ getD-drop from s i 0 ∙ h i b ∙ sym (getD-drop from t i 0) ∙ sym (getD-take n (drop from t) i 0 b))
 
-rowStart-step : (s : List ℕ) (i : ℕ) → rowStart s (suc i) ≡ rowStart s i + 24 + word 8 s (rowStart s i + 16)
+pub rowStart-step : (s : List ℕ) (i : ℕ) → rowStart s (suc i) ≡ rowStart s i + 24 + word 8 s (rowStart s i + 16)
 unfolding rowStart
 rowStart-step s i = refl
 

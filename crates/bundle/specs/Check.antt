@@ -1,4 +1,4 @@
--- The check of a bundle: refusals 1 to 8 in the order of document 01's table, with their places, for every `IdRules`. Definitions only.
+-- The check of a bundle: refusals 1 to 8 in the order of RULES 3.5, with their places (RULES 7), for every `IdRules`. Definitions only.
 -- Sums are sums of natural numbers: none wraps.
 use Prim.Native.Nat.{ℕ, zero, suc, _+_}
 use mathlib.Core.Bool.{Bool, not, _&&_, _||_}

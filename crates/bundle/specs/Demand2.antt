@@ -13,6 +13,7 @@ use Rattle.bundle.specs.Table.{Row, row}
 use Rattle.bundle.specs.Check.{badId, meanSame, mix}
 use Rattle.bundle.specs.Pick.{compatibleAt}
 use Rattle.bundle.specs.Theorems.{CheckExact, PlaceExact, PickExact, FramedExact, TableDecides}
+use Rattle.bundle.specs.EntryAt.{EntryExact}
 use Rattle.bundle.specs.Writer.{WritesRead}
 
 -- the tests of 5, 7, 8, 9 and 10, on the texts as spelled
@@ -27,11 +28,13 @@ pub record ByMeaning : Type 0 where
   pub fits : (s device : List ℕ) (i : ℕ) → T (valid (row s i .id)) → T (valid device) → compatibleAt idRules s device i ≡ compatible (meaning (row s i .id)) (meaning device)
 
 pub record Demand2 : Type 0 where
-  -- "A container is accepted exactly when document 01's rules hold."
+  -- "A container is accepted exactly when [the] rules hold" (RULES 7.4).
   pub checked : (s : List ℕ) → CheckExact idRules s
   pub places : (s : List ℕ) → PlaceExact idRules s
   -- "A pick returns the image of the one compatible entry, or NONE exactly if there is none."
   pub picked : (s device : List ℕ) → PickExact idRules s device
+  -- an entry by its index (RULES 9)
+  pub entry : (s : List ℕ) (i : ℕ) → EntryExact idRules s i
   -- "If a bundle passes 1 to 4, it and any bundle of the same length that agrees with it in every byte before its table end get the same answers"
   pub framed : (s : List ℕ) → FramedExact s
   pub table-decides : TableDecides idRules

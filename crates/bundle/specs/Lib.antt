@@ -4,6 +4,7 @@ pub mod Entry
 pub mod Pick
 pub mod Accepted
 pub mod Theorems
+pub mod EntryAt
 pub mod Records
 pub mod Layout
 pub mod Normal

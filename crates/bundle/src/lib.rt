@@ -16,6 +16,16 @@ pub struct Picked {
     pub size: u64,
 }
 
+// What a call by an entry's index returns: the refusal's number and place, or 0, 0, the position and size of the entry's image, and where its ID stands.
+pub struct Located {
+    pub number: usize,
+    pub place: usize,
+    pub position: u64,
+    pub size: u64,
+    pub id_position: usize,
+    pub id_length: usize,
+}
+
 // What a call that writes a bundle returns: the refusal's number and place, or 0, 0 and the length written.
 pub struct Written {
     pub number: usize,

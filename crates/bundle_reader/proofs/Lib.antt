@@ -3,4 +3,5 @@ pub mod SlotLaws
 pub mod StageLaws
 pub mod RecordLaws
 pub mod ChoiceLaws
+pub mod LocatedLaws
 pub mod IdLaws

@@ -1,4 +1,4 @@
-// The check of a bundle, and the pick of the image for a device name.
+// The check of a bundle, the pick of the image for a device name, and the entry at an index.
 ghost use mathlib.Core.Path.{_≡_};
 ghost use mathlib.Core.Bool.{true, false};
 ghost use mathlib.Core.List.{List};
@@ -15,12 +15,14 @@ ghost use Rattle.bundle.specs.Check.{badRow, outside, unrefused, headStop, chec
 ghost use Rattle.bundle.specs.Pick.{pick};
 ghost use Rattle.bundle.specs.Accepted.{RowFits};
 ghost use Rattle.bundle.specs.Theorems.{refusal};
+ghost use Rattle.bundle.specs.EntryAt.{entryAt, unlocated};
 ghost use Rattle.bundle.specs.Records.{noRecord, recordAt, rowsOf, badPart};
 ghost use Rattle.canonical_form.specs.Made.{formOf};
 ghost use Rattle.bundle_reader.specs.Examined.{filled, slots, text, form, formLength, heldRow, rowsIn, examined, formsOf, examinedRecords, formsOfRecords};
 ghost use Rattle.bundle_reader.specs.Slots.{Tabled, firstMore, Room, Formed, Canonical, Texts, Pickable, Known, near, relation, relations};
 use bundle::Checked;
 use bundle::EntryRecord;
+use bundle::Located;
 use bundle::Picked;
 use canonical_form::Form;
 use entry_compare::Relation;
@@ -662,4 +664,41 @@ pub fn pick(bundle: &[u8], device: &[u8]) -> Picked
         return pick_few(bundle, device);
     }
     pick_many(bundle, device)
+}
+
+// The refusal of a call by an entry's index.
+fn not_located(number: usize, place: usize) -> Located
+    ensures { λ r. ⌜ r ≡ unlocated number place ⌝ }
+{
+    Located {
+        number: number,
+        place: place,
+        position: 0,
+        size: 0,
+        id_position: 0,
+        id_length: 0,
+    }
+}
+
+// The entry of a bundle at an index: where its image and its ID lie.
+pub fn entry(bundle: &[u8], index: usize) -> Located
+    ensures { λ r. ⌜ r ≡ entryAt idRules (now (bundle .entry)) index ⌝ }
+{
+    let c = check(bundle);
+    let number = c.number;
+    if 0 < number {
+        return not_located(number, c.place);
+    }
+    if c.count <= index {
+        return not_located(10, 0);
+    }
+    let row = row_of(bundle, index);
+    Located {
+        number: 0,
+        place: 0,
+        position: row.image_start as u64,
+        size: row.image_len as u64,
+        id_position: row.id_start,
+        id_length: row.id_len,
+    }
 }

@@ -1,5 +1,5 @@
 -- Texts on each side of a rule: proofs/ExamplesProof.antt proves them by computation. Statements only.
--- The examples that document 01 marks to be proved stand in one table, in the crate `examples`.
+-- The marked examples of RULES B stand in one table, in the crate `examples`.
 use mathlib.Core.Path.{_≡_}
 use mathlib.Core.Bool.{false}
 use Rattle.wire.specs.Bytes.{bytes}

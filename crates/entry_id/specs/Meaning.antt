@@ -1,5 +1,5 @@
 -- Entry IDs: what a text means, its canonical form, and which texts are IDs. Definitions only.
--- Each has the sentence of document 01, "Entry IDs and what they mean", that it renders.
+-- RULES 5. Each has the sentence of the requirements that it renders.
 use Prim.Native.Nat.{ℕ, _-_}
 use Prim.Native.Char.{code}
 use mathlib.Core.Bool.{Bool, true, false, not, _&&_, _||_, cond}

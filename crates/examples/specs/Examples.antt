@@ -1,4 +1,4 @@
--- Document 01's examples that are marked to be proved ("Bench pieces", marked *): one table under one claim. Statements only.
+-- The examples that are marked * in RULES B, B.1 to B.10: one table under one claim. Statements only.
 use Prim.Native.Nat.{ℕ}
 use mathlib.Core.Path.{_≡_}
 use mathlib.Core.Bool.{true, false}

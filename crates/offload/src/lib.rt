@@ -3,6 +3,7 @@ ghost use mathlib.Core.Path.{_≡_};
 ghost use Rattle.entry_id.specs.Rules.{idRules};
 ghost use Rattle.bundle.specs.Check.{check};
 ghost use Rattle.bundle.specs.Pick.{pick};
+ghost use Rattle.bundle.specs.EntryAt.{entryAt};
 ghost use Rattle.bundle.specs.Normal.{normalise, normalised};
 ghost use lib.ListN.{length};
 
@@ -60,6 +61,48 @@ pub extern "C" fn offload_pick_size(bundle: &[u8], device: &[u8]) -> u64
     ensures { λ r. ⌜ r ≡ pick idRules (now (bundle .entry)) (now (device .entry)) .size ⌝ }
 {
     bundle_reader::pick(bundle, device).size
+}
+
+#[no_mangle]
+pub extern "C" fn offload_entry_number(bundle: &[u8], index: usize) -> u64
+    ensures { λ r. ⌜ r ≡ entryAt idRules (now (bundle .entry)) index .number ⌝ }
+{
+    bundle_reader::entry(bundle, index).number as u64
+}
+
+#[no_mangle]
+pub extern "C" fn offload_entry_place(bundle: &[u8], index: usize) -> u64
+    ensures { λ r. ⌜ r ≡ entryAt idRules (now (bundle .entry)) index .place ⌝ }
+{
+    bundle_reader::entry(bundle, index).place as u64
+}
+
+#[no_mangle]
+pub extern "C" fn offload_entry_position(bundle: &[u8], index: usize) -> u64
+    ensures { λ r. ⌜ r ≡ entryAt idRules (now (bundle .entry)) index .position ⌝ }
+{
+    bundle_reader::entry(bundle, index).position
+}
+
+#[no_mangle]
+pub extern "C" fn offload_entry_size(bundle: &[u8], index: usize) -> u64
+    ensures { λ r. ⌜ r ≡ entryAt idRules (now (bundle .entry)) index .size ⌝ }
+{
+    bundle_reader::entry(bundle, index).size
+}
+
+#[no_mangle]
+pub extern "C" fn offload_entry_id_position(bundle: &[u8], index: usize) -> u64
+    ensures { λ r. ⌜ r ≡ entryAt idRules (now (bundle .entry)) index .«id_position» ⌝ }
+{
+    bundle_reader::entry(bundle, index).id_position as u64
+}
+
+#[no_mangle]
+pub extern "C" fn offload_entry_id_length(bundle: &[u8], index: usize) -> u64
+    ensures { λ r. ⌜ r ≡ entryAt idRules (now (bundle .entry)) index .«id_length» ⌝ }
+{
+    bundle_reader::entry(bundle, index).id_length as u64
 }
 
 #[no_mangle]

@@ -1,4 +1,4 @@
--- An offload binary: document 01's "Strip bytes" and the refusals 13 to 17 of its table. Definitions only.
+-- An offload binary: its bytes (RULES 12) and the refusals 13 to 17 (RULES 3.5). Definitions only.
 -- b is the bytes from the binary's first byte on, and o = own b the binary's own bytes.
 -- "Offsets inside a binary count from its own first byte, key and text offsets included": offsets are places in o.
 use Prim.Native.Nat.{ℕ, zero, suc, _+_, _*_}

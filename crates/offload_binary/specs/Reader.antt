@@ -1,4 +1,4 @@
--- Offload binaries laid end to end (document 01's strip): the reader, and which sequences are accepted. Definitions only.
+-- Offload binaries laid end to end: the reader, and which sequences are accepted (RULES 13). Definitions only.
 use Prim.Native.Nat.{ℕ, zero, suc, _+_}
 use mathlib.Core.Bool.{Bool, _&&_, _||_, cond}
 use mathlib.Core.List.{List, [], _∷_}

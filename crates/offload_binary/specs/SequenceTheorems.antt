@@ -1,4 +1,4 @@
--- What holds of every sequence of offload binaries (document 01's strip). Statements only: `Theorems` is proved in proofs/SequenceTheorems.antt.
+-- What holds of every sequence of offload binaries (RULES 13, 16.3). Statements only: `Theorems` is proved in proofs/SequenceTheorems.antt.
 use Prim.Native.Nat.{ℕ, suc, _+_, _<_, _≤_}
 use mathlib.Core.Logic.{_↔_}
 use mathlib.Core.Path.{_≡_}

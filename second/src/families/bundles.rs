@@ -1,15 +1,16 @@
-//! Bundles: the check, the pick and normalising.
+//! Bundles: the check, the pick, the entry at an index and normalising.
 
 use super::*;
 use crate::calls::BundleCalls;
 use crate::gen::bundles::{aims, sample_case, shake, some_count, Case, Draft};
 use crate::gen::examples::bundle_cases;
 use crate::guard::Inputs;
-use crate::model::bundle::{check_of, entries, normalise_of, pick_of, Checked, Entries, Picked};
+use crate::model::bundle::{check_of, entries, entry_at_of, normalise_of, pick_of, Checked, Entries, Located, Picked};
 use crate::samples;
 
 const CHECK: (&str, &[u64]) = ("check", &[0, 1, 2, 3, 4, 5, 6, 7, 8]);
 const PICK: (&str, &[u64]) = ("pick", &[0, 1, 2, 3, 4, 5, 6, 7, 8, 9, 10]);
+const ENTRY: (&str, &[u64]) = ("entry", &[0, 1, 2, 3, 4, 5, 6, 7, 8, 10]);
 const NORMALISE: (&str, &[u64]) = ("normalise", &[0, 1, 2, 3, 4, 5, 6, 7, 8, 11, 12]);
 
 pub struct Bundles {
@@ -26,7 +27,7 @@ pub struct Bundles {
 impl Bundles {
     pub fn new(calls: BundleCalls) -> Bundles {
         let aims = aims();
-        let report = Report { entry_counts: vec![0; 65], ..Report::new(&[CHECK, PICK, NORMALISE], &aims) };
+        let report = Report { entry_counts: vec![0; 65], ..Report::new(&[CHECK, PICK, ENTRY, NORMALISE], &aims) };
         Bundles {
             calls,
             report,
@@ -35,18 +36,19 @@ impl Bundles {
             device: Inputs::new(),
             output: Output::new(),
             scratch: scratch(),
-            case: Case { bundle: Vec::new(), zeros: 0, device: Vec::new(), room: Room::Exact },
+            case: Case { bundle: Vec::new(), zeros: 0, device: Vec::new(), index: 0, room: Room::Exact },
         }
     }
 
-    /// Runs the case through every call. The numbers of check, pick and normalise.
-    fn compare(&mut self) -> Result<[(&'static str, u64); 3], Difference> {
+    /// Runs the case through every call. The number that each gave.
+    fn compare(&mut self) -> Result<[(&'static str, u64); 4], Difference> {
         self.bundle.lend(&self.case.bundle, self.case.zeros);
         self.device.lend(&self.case.device, 0);
         let (bundle, device) = (self.bundle.lent(), self.device.lent());
         let entries = entries(bundle);
         let checked = compare_check(&self.calls, bundle, &entries)?;
         let picked = compare_pick(&self.calls, bundle, device, &entries)?;
+        let located = compare_entry(&self.calls, bundle, self.case.index, &entries)?;
         let written = compare_writing(
             NORMALISE.0,
             self.case.room,
@@ -57,7 +59,12 @@ impl Bundles {
         )?;
         let kept = bundle.starts_with(&self.case.bundle) && device == self.case.device;
         holds("all", kept, KEPT, &"changed")?;
-        let numbers = [(CHECK.0, checked.number), (PICK.0, picked.number), (NORMALISE.0, written.number)];
+        let numbers = [
+            (CHECK.0, checked.number),
+            (PICK.0, picked.number),
+            (ENTRY.0, located.number),
+            (NORMALISE.0, written.number),
+        ];
         for (call, number) in numbers {
             self.report.count(call, number);
         }
@@ -96,19 +103,33 @@ fn compare_pick(calls: &BundleCalls, bundle: &[u8], device: &[u8], entries: &Ent
     Ok(model)
 }
 
+fn compare_entry(calls: &BundleCalls, bundle: &[u8], index: u64, entries: &Entries) -> Result<Located, Difference> {
+    let (model, library) = (entry_at_of(entries, index), (calls.entry)(bundle, index));
+    same(ENTRY.0, &model, &library)?;
+    let others = [library.position, library.size, library.id_position, library.id_length];
+    let zeros = if library.number == OK { library.place == 0 } else { others == [0; 4] };
+    holds(ENTRY.0, zeros, ZEROS, &library)?;
+    Ok(model)
+}
+
 impl Family for Bundles {
     fn name(&self) -> &'static str {
         "bundles"
     }
 
-    /// The examples of document 01, and each real bundle with each device name.
+    /// The examples of RULES B, and each real bundle with each device name, and with each index up to the count.
     fn run_fixed(&mut self) -> Result<u64, Difference> {
         let mut cases = bundle_cases();
         for sample in samples::BUNDLES {
-            for device in samples::DEVICES {
-                let (bundle, device) = (sample.bytes.to_vec(), device.as_bytes().to_vec());
-                cases.push(Case { bundle, zeros: 0, device, room: Room::Exact });
-            }
+            let case = |device: &str, index: usize| Case {
+                bundle: sample.bytes.to_vec(),
+                zeros: 0,
+                device: device.as_bytes().to_vec(),
+                index: index as u64,
+                room: Room::Exact,
+            };
+            cases.extend(samples::DEVICES.iter().map(|device| case(device, 0)));
+            cases.extend((1..=sample.entries.len()).map(|index| case(samples::DEVICES[0], index)));
         }
         let count = cases.len() as u64;
         for case in cases {
@@ -137,7 +158,8 @@ impl Family for Bundles {
     }
 
     fn files(&self) -> Vec<(&'static str, Vec<u8>)> {
-        let notes = format!("zero bytes after the bundle: {}\nroom: {:?}\n", self.case.zeros, self.case.room);
+        let Case { zeros, index, room, .. } = &self.case;
+        let notes = format!("zero bytes after the bundle: {zeros}\nindex: {index}\nroom: {room:?}\n");
         vec![
             ("bundle", self.case.bundle.clone()),
             ("device", self.case.device.clone()),

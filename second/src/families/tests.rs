@@ -4,8 +4,8 @@ use super::*;
 use crate::calls::{BundleCalls, MODEL, MODEL_BINARY_READER, MODEL_BINARY_WRITER, MODEL_BUNDLE_WRITER};
 use crate::gen::{binary_contents, records};
 use crate::model::binary_writer::Content;
-use crate::model::bundle::{check, entries, normalise, pick, Checked, Picked};
-use crate::model::id::{meaning, same_target, Meaning};
+use crate::model::bundle::{check, entries, entry_at, normalise, pick, Checked, Located, Picked};
+use crate::model::id::{canonical, meaning, same_target, Meaning};
 use crate::model::{integer, COUNT, LENGTH, NONE, RANGE, TWICE};
 
 fn run(family: &mut dyn Family, cases: u64) -> Result<(), Difference> {
@@ -147,6 +147,31 @@ fn hip_taken_for_hipv4_is_found() {
         _ => pick(bundle, device),
     };
     assert_eq!(found_in(BundleCalls { pick, ..MODEL }), "pick");
+}
+
+#[test]
+fn slips_of_an_index_are_found() {
+    let with = |entry: fn(&[u8], u64) -> Located| BundleCalls { entry, ..MODEL };
+    let last_for_the_count = with(|bundle, index| match check(bundle).count {
+        count if count == index && count > 0 => entry_at(bundle, index - 1),
+        _ => entry_at(bundle, index),
+    });
+    assert_eq!(found_in(last_for_the_count), "entry");
+    let in_32_bits = with(|bundle, index| entry_at(bundle, index as u32 as u64));
+    assert_eq!(found_in(in_32_bits), "entry");
+    let id_at_its_row = with(|bundle, index| match entry_at(bundle, index) {
+        located if located.number == OK => Located { id_position: located.id_position - 24, ..located },
+        refused => refused,
+    });
+    assert_eq!(found_in(id_at_its_row), "entry");
+    let canonical_id = with(|bundle, index| match entry_at(bundle, index) {
+        located if located.number == OK => {
+            let form = canonical(&entries(bundle).unwrap()[index as usize].meaning);
+            Located { id_length: form.len() as u64, ..located }
+        }
+        refused => refused,
+    });
+    assert_eq!(found_in(canonical_id), "entry");
 }
 
 fn with_normalise(normalise: fn(&[u8], &mut [u8], Field) -> u64) -> BundleCalls {

@@ -1,4 +1,4 @@
-//! Bundles with a device name and a length for the lent output.
+//! Bundles with a device name, an index and a length for the lent output.
 
 use super::ids::{self, IdMaker, Meaning, BROKEN, EDGES};
 use super::random::Random;
@@ -37,6 +37,7 @@ pub struct Draft {
     /// The bundle ends here, if it is cut short.
     pub cut: Option<usize>,
     pub device: Vec<u8>,
+    pub index: u64,
     pub room: Room,
 }
 
@@ -46,6 +47,7 @@ pub struct Case {
     pub bundle: Vec<u8>,
     pub zeros: usize,
     pub device: Vec<u8>,
+    pub index: u64,
     pub room: Room,
 }
 
@@ -86,6 +88,7 @@ impl Draft {
             zeros: 0,
             cut: None,
             device: Vec::new(),
+            index: some_index(random, count),
             room: Room::any(random),
         };
         draft.device = draft.likely_device(random);
@@ -138,7 +141,7 @@ impl Draft {
 
     pub fn case(&self) -> Case {
         let zeros = if self.cut.is_some() { 0 } else { self.zeros };
-        Case { bundle: self.bytes(), zeros, device: self.device.clone(), room: self.room }
+        Case { bundle: self.bytes(), zeros, device: self.device.clone(), index: self.index, room: self.room }
     }
 
     /// A row anywhere; where 64 stand already, it takes the place of one.
@@ -194,6 +197,14 @@ pub fn some_count(random: &mut Random) -> usize {
     }
 }
 
+/// An index up to the count, or any number.
+fn some_index(random: &mut Random, count: usize) -> u64 {
+    if random.one_in(8) {
+        return random.word();
+    }
+    random.between(0, count) as u64
+}
+
 /// How many images of the size limit make an output far above it: above 2^31, above 2^32, and the most there can be.
 pub const FAR_ABOVE: &[usize] = &[3, 5, 64];
 
@@ -242,7 +253,8 @@ pub fn sample_case(random: &mut Random) -> Case {
         }
     }
     let device = random.choose(samples::DEVICES).as_bytes().to_vec();
-    Case { bundle, zeros: 0, device, room: Room::any(random) }
+    let index = some_index(random, sample.entries.len());
+    Case { bundle, zeros: 0, device, index, room: Room::any(random) }
 }
 
 /// Bytes changed, put in or taken out, anywhere in the table.
@@ -266,6 +278,7 @@ pub fn aims() -> Vec<Aim<Draft>> {
     aims.extend(range_aims());
     aims.extend(composition_aims());
     aims.extend(device_aims());
+    aims.extend(index_aims());
     aims.extend(normal_form_aims());
     aims
 }
@@ -278,6 +291,10 @@ fn check(number: u64, name: &str, make: fn(&mut Draft, &mut Random)) -> BundleAi
 
 fn pick(number: u64, name: &str, make: fn(&mut Draft, &mut Random)) -> BundleAim {
     Aim::new("pick", number, name, make)
+}
+
+fn entry(number: u64, name: &str, make: fn(&mut Draft, &mut Random)) -> BundleAim {
+    Aim::new("entry", number, name, make)
 }
 
 fn normalise(number: u64, name: &str, make: fn(&mut Draft, &mut Random)) -> BundleAim {
@@ -640,6 +657,48 @@ fn broken_device(maker: &IdMaker) -> BundleAim {
     Aim::new("pick", QUERY, &format!("device: {}", maker.name), move |draft: &mut Draft, random| {
         draft.device = make(random)
     })
+}
+
+/// 10 of an index, and indices that get an entry.
+fn index_aims() -> Vec<BundleAim> {
+    vec![
+        entry(OK, "index 0", |draft, random| {
+            draft.some_row(random);
+            draft.index = 0;
+        }),
+        entry(OK, "index of the last entry", |draft, random| {
+            draft.some_row(random);
+            draft.index = draft.count.wrapping_sub(1);
+        }),
+        entry(OK, "index of any entry", |draft, random| draft.index = draft.some_row(random) as u64),
+        entry(OK, "index of the last of 64 entries", |draft, random| {
+            *draft = Draft::good(random, 64);
+            draft.index = 63;
+        })
+        .large(),
+        entry(NONE, "index of the count", |draft, _| draft.index = draft.count),
+        entry(NONE, "index of the count, 64 entries", |draft, random| {
+            *draft = Draft::good(random, 64);
+            draft.index = 64;
+        })
+        .large(),
+        entry(NONE, "index 0, no entries", |draft, random| {
+            *draft = Draft::good(random, 0);
+            draft.index = 0;
+        }),
+        entry(NONE, "index of a row that is not counted", |draft, random| {
+            draft.some_row(random);
+            draft.count = draft.count.wrapping_sub(1);
+            draft.index = draft.count;
+        }),
+        entry(NONE, "index above the count", |draft, random| {
+            draft.index = draft.count.saturating_add(random.between(1, 1000) as u64);
+        }),
+        entry(NONE, "index of 2^64 - 1", |draft, _| draft.index = u64::MAX),
+        entry(NONE, "index with one high bit more", |draft, random| {
+            draft.index = draft.some_row(random) as u64 | 1 << random.between(6, 63);
+        }),
+    ]
 }
 
 /// 11 and 12.

@@ -1,4 +1,4 @@
-//! The examples of document 01's section "Bench pieces on each side of a line" as cases. `model/examples.rs` says what comes of them.
+//! The examples of RULES B, B.1 to B.13, as cases. `model/examples.rs` says what comes of them.
 
 use super::{binaries, bundles, Room};
 use crate::model::binary_writer::{write_binary, Content, PairParts};
@@ -44,6 +44,7 @@ pub fn bundle_cases() -> Vec<bundles::Case> {
         bundle,
         zeros: 0,
         device: device.as_bytes().to_vec(),
+        index: 0,
         room: Room::Exact,
     };
     vec![

@@ -1,4 +1,4 @@
-//! "Strip bytes": the reader of offload binaries laid end to end (document 01's word for such a container is "strip").
+//! The reader of offload binaries laid end to end (RULES 12, 13).
 
 use super::*;
 use std::collections::BTreeSet;

@@ -1,4 +1,4 @@
-//! "Bundle bytes", the check, the pick, and "Normal form".
+//! "Bundle bytes", the check, the pick, the entry at an index, and "Normal form".
 
 use super::id::{canonical, compatible, meaning, mixed, Meaning};
 use super::*;
@@ -23,11 +23,23 @@ pub struct Picked {
     pub size: u64,
 }
 
-/// An entry of the table as it stands.
+/// What a call by an entry's index returns: position and size of its image, and where its ID, as spelled, stands in the bundle.
+#[derive(Clone, Copy, Debug, Default, PartialEq, Eq)]
+pub struct Located {
+    pub number: u64,
+    pub place: u64,
+    pub position: u64,
+    pub size: u64,
+    pub id_position: u64,
+    pub id_length: u64,
+}
+
+/// An entry of the table as it stands. Positions count "from the bundle's first byte".
 #[derive(Clone, Copy, Debug)]
 pub struct Row<'a> {
     pub offset: u64,
     pub size: u64,
+    pub id_position: u64,
     pub id: &'a [u8],
 }
 
@@ -35,11 +47,13 @@ pub struct Row<'a> {
 #[derive(Clone, Debug)]
 pub struct Entry<'a> {
     pub meaning: Meaning<'a>,
+    pub id_position: u64,
+    pub id: &'a [u8],
     pub offset: u64,
     pub image: &'a [u8],
 }
 
-/// What is read of a bundle, which check, pick and normalising start from: its entries, or the refusal 1 to 8.
+/// What is read of a bundle, which every call starts from: its entries, or the refusal 1 to 8.
 pub type Entries<'a> = Result<Vec<Entry<'a>>, Refusal>;
 
 /// 1 to 8, in this order, "each of 4 to 8 .. tried over all entries before the next".
@@ -78,8 +92,9 @@ fn row(bundle: &[u8], at: usize) -> Option<Row<'_>> {
     if id_length == 0 || id_length > ID_LIMIT {
         return None;
     }
-    let id = part(bundle, at as u64 + 24, id_length)?;
-    Some(Row { offset: integer(bundle, at, 8), size: integer(bundle, at + 8, 8), id })
+    let id_position = at as u64 + 24;
+    let id = part(bundle, id_position, id_length)?;
+    Some(Row { offset: integer(bundle, at, 8), size: integer(bundle, at + 8, 8), id_position, id })
 }
 
 /// "image offset before table end, or offset + size above the length".
@@ -94,9 +109,9 @@ pub fn composition(meanings: &[Meaning]) -> Result<(), Refusal> {
     refuse_at(meanings.len(), MIXED, |i| meanings[..i].iter().any(|earlier| mixed(earlier, &meanings[i])))
 }
 
-fn entry<'a>(bundle: &'a [u8], meaning: Meaning<'a>, row: &Row) -> Entry<'a> {
+fn entry<'a>(bundle: &'a [u8], meaning: Meaning<'a>, row: &Row<'a>) -> Entry<'a> {
     let image = part(bundle, row.offset, row.size).expect("an accepted image lies inside");
-    Entry { meaning, offset: row.offset, image }
+    Entry { meaning, id_position: row.id_position, id: row.id, offset: row.offset, image }
 }
 
 /// The bundle check.
@@ -135,6 +150,32 @@ fn picked_entry<'a>(entries: &'a Entries, device: &[u8]) -> Result<(usize, &'a E
         entries.iter().enumerate().filter(|(_, entry)| compatible(&entry.meaning, &device)).collect();
     assert!(found.len() <= 1, "an accepted bundle has two entries that are compatible with one device name");
     found.pop().ok_or(Refusal { number: NONE, place: 0 })
+}
+
+/// 1 to 8 as the check, then 10: the index is not below the count.
+pub fn entry_at(bundle: &[u8], index: u64) -> Located {
+    entry_at_of(&entries(bundle), index)
+}
+
+/// What a call by an entry's index returns for a bundle of which this was read.
+pub fn entry_at_of(entries: &Entries, index: u64) -> Located {
+    match located_entry(entries, index) {
+        Err(refusal) => Located { number: refusal.number, place: refusal.place, ..Located::default() },
+        Ok(entry) => Located {
+            number: OK,
+            place: 0,
+            position: entry.offset,
+            size: entry.image.len() as u64,
+            id_position: entry.id_position,
+            id_length: entry.id.len() as u64,
+        },
+    }
+}
+
+fn located_entry<'a>(entries: &'a Entries, index: u64) -> Result<&'a Entry<'a>, Refusal> {
+    let entries = entries.as_ref().map_err(|refusal| *refusal)?;
+    refuse_if(index >= entries.len() as u64, NONE)?;
+    Ok(&entries[index as usize])
 }
 
 /// "Normalising checks 1 to 8, 11, 12."

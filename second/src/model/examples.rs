@@ -1,8 +1,8 @@
-//! The examples of document 01's section "Bench pieces on each side of a line", all of them, and the slips it names.
+//! The examples of RULES B, the mistakes of RULES C, and entries by index.
 
 use super::binaries::{read_all, Binary, Pair};
 use super::binary_writer::{write_binary, Content};
-use super::bundle::{check, normalise, pick, Checked, Picked, MAGIC_BYTES};
+use super::bundle::{check, entry_at, normalise, pick, Checked, Located, Picked, MAGIC_BYTES};
 use super::bundle_writer::{write_bundle, Record};
 use super::id::{canonical, compatible, meaning, Meaning};
 use super::*;
@@ -110,6 +110,19 @@ fn twice_in_two_spellings() {
 fn offset_at_the_length() {
     assert_eq!(check(&at_the_length(0)), accepted(1));
     assert_eq!(check(&at_the_length(1)), refusal(RANGE, 0));
+}
+
+#[test]
+fn entries_by_index() {
+    let bytes = bundle(&[(HOST, b"12345"), (PLAIN, b"")]);
+    let first = Located { number: OK, place: 0, position: 137, size: 5, id_position: 56, id_length: 29 };
+    let second = Located { number: OK, place: 0, position: 142, size: 0, id_position: 109, id_length: 28 };
+    let none = Located { number: NONE, ..Located::default() };
+    assert_eq!([0, 1, 2, u64::MAX].map(|index| entry_at(&bytes, index)), [first, second, none, none]);
+    assert_eq!(entry_at(&bundle(&[]), 0), none);
+    let mixed = bundle(&[(PLAIN, b""), (XNACK_ON, b"")]);
+    assert_eq!(entry_at(&mixed, 0), Located { number: MIXED, place: 1, ..Located::default() });
+    assert_eq!(entry_at(&mixed, 2), Located { number: MIXED, place: 1, ..Located::default() });
 }
 
 #[test]

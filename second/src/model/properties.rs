@@ -1,8 +1,8 @@
-//! What document 01 says of the rules as a whole, tried on generated cases.
+//! What RULES 8.3, 10.6, 10.7 and 16 say of the rules as a whole, tried on generated cases.
 
 use super::binaries::read_all;
 use super::binary_writer::{write_binary, PairParts};
-use super::bundle::{check, entries, normalise, pick, pick_of, Checked, Entries, Entry};
+use super::bundle::{check, entries, entry_at_of, normalise, pick, pick_of, Checked, Entries, Entry, Located};
 use super::bundle_writer::write_bundle;
 use super::id::{canonical, compatible, meaning, mixed};
 use super::*;
@@ -79,6 +79,26 @@ fn every_count_of_entries_is_accepted() {
             assert_eq!(check(&draft.bytes()), Checked { number: OK, place: 0, count });
         }
     }
+}
+
+#[test]
+fn an_index_gives_its_row_and_what_a_pick_gives() {
+    each_case(|random| {
+        let draft = some_bundle(random);
+        let bundle = draft.bytes();
+        let entries = entries(&bundle);
+        for (index, row) in draft.rows.iter().enumerate() {
+            let located = entry_at_of(&entries, index as u64);
+            assert_eq!(part(&bundle, located.id_position, located.id_length), Some(&row.id[..]));
+            assert_eq!(located.size, row.size);
+        }
+        assert_eq!(entry_at_of(&entries, draft.count), Located { number: NONE, ..Located::default() });
+        let picked = pick_of(&entries, &draft.device);
+        if picked.number == OK {
+            let located = entry_at_of(&entries, picked.index);
+            assert_eq!((located.position, located.size), (picked.position, picked.size));
+        }
+    });
 }
 
 #[test]

@@ -1,0 +1,15 @@
+-- `seconds` meets its contract: the definitions give what each case expects, by computation.
+-- Assumes nothing.
+use mathlib.Core.Path.{refl}
+use borrow.Author.Needs.{needs}
+use Rattle.selftest_binaries.proofs.Computing as computing
+use Rattle.selftest_binaries.proofs.binaries.seconds.Statement.{statement}
+use Rattle.selftest_binaries.proofs.binaries.seconds.Tie as tie
+
+pub seconds-spec : {M : Type 1} → statement M
+unfolding computing.binaries
+seconds-spec = tie.close (tie.spec
+    (λ c. refl) (λ c κs. (refl, refl, refl, refl))
+    (λ c. refl) (λ c κs. (refl, refl, refl, refl))
+    (λ c. refl) (λ c κs. (refl, refl, refl, refl))
+    (λ c. search needs))

@@ -1,0 +1,322 @@
+// Bundles: the check, the pick and the normal form.
+ghost use mathlib.Core.Path.{_≡_};
+ghost use lib.ListN.{length};
+ghost use Rattle.entry_id.specs.Rules.{idRules};
+ghost use Rattle.bundle.specs.Check.{check};
+ghost use Rattle.bundle.specs.Pick.{pick};
+ghost use Rattle.bundle.specs.EntryAt.{entryAt};
+ghost use Rattle.bundle.specs.Normal.{normalise, normalised};
+
+// "Magic and eight zero bytes"
+const NO_ENTRIES: [u8; 32] = *b"__CLANG_OFFLOAD_BUNDLE__\0\0\0\0\0\0\0\0";
+
+// An entry of five fields, with an image of 5 bytes.
+const HOST_SPELLED: [u8; 90] = *b"__CLANG_OFFLOAD_BUNDLE__\x01\0\0\0\0\0\0\0\
+    \x55\0\0\0\0\0\0\0\x05\0\0\0\0\0\0\0\x1d\0\0\0\0\0\0\0host-x86_64-unknown-linux-gnu\
+    image";
+
+// The same with its ID in canonical form: "magic; count 1; 86; 5; 30; the ID; the five bytes".
+const HOST: [u8; 91] = *b"__CLANG_OFFLOAD_BUNDLE__\x01\0\0\0\0\0\0\0\
+    \x56\0\0\0\0\0\0\0\x05\0\0\0\0\0\0\0\x1e\0\0\0\0\0\0\0host-x86_64-unknown-linux-gnu-\
+    image";
+
+// samples/bundles/host-only.bundle, by LLVM.
+const HOST_ONLY: [u8; 86] = *b"__CLANG_OFFLOAD_BUNDLE__\x01\0\0\0\0\0\0\0\
+    \x56\0\0\0\0\0\0\0\0\0\0\0\0\0\0\0\x1e\0\0\0\0\0\0\0host-x86_64-unknown-linux-gnu-";
+
+// Two entries in falling order; bytes of no image after the table; images that share a byte.
+const TWO_CARDS: [u8; 158] = *b"__CLANG_OFFLOAD_BUNDLE__\x02\0\0\0\0\0\0\0\
+    \x9a\0\0\0\0\0\0\0\x03\0\0\0\0\0\0\0\x23\0\0\0\0\0\0\0hip-amdgcn-amd-amdhsa-gfx906:xnack-\
+    \x9c\0\0\0\0\0\0\0\x02\0\0\0\0\0\0\0\x23\0\0\0\0\0\0\0hip-amdgcn-amd-amdhsa-gfx906:xnack+\
+    ....abcd";
+
+// Its normal form.
+const TWO_CARDS_NORMAL: [u8; 157] = *b"__CLANG_OFFLOAD_BUNDLE__\x02\0\0\0\0\0\0\0\
+    \x98\0\0\0\0\0\0\0\x02\0\0\0\0\0\0\0\x24\0\0\0\0\0\0\0hip-amdgcn-amd-amdhsa--gfx906:xnack+\
+    \x9a\0\0\0\0\0\0\0\x03\0\0\0\0\0\0\0\x24\0\0\0\0\0\0\0hip-amdgcn-amd-amdhsa--gfx906:xnack-\
+    cdabc";
+
+fn expect_check(bundle: &[u8], number: usize, place: usize, count: usize)
+    requires { ⌜ check idRules (now bundle) ≡ record { number = number; place = place; count = count } ⌝ }
+{
+    let r = bundle_reader::check(bundle);
+    check::expect((r.number == number) & (r.place == place) & (r.count == count));
+}
+
+// MAGIC and COUNT.
+pub(crate) fn heads() {
+    // "Empty input: MAGIC as a bundle"
+    expect_check(b"", 2, 0, 0);
+    // magic alone
+    expect_check(b"__CLANG_OFFLOAD_BUNDLE__", 3, 0, 0);
+    // "65 is COUNT."
+    expect_check(b"__CLANG_OFFLOAD_BUNDLE__\x41\0\0\0\0\0\0\0", 3, 0, 0);
+    // "Magic and eight zero bytes: accepted, no entries"
+    expect_check(&NO_ENTRIES, 0, 0, 0);
+}
+
+// TABLE and ID.
+pub(crate) fn tables() {
+    // "An ID length of 2^64 - 1 is TABLE."
+    expect_check(
+        b"__CLANG_OFFLOAD_BUNDLE__\x01\0\0\0\0\0\0\0\
+        \x38\0\0\0\0\0\0\0\0\0\0\0\0\0\0\0\xff\xff\xff\xff\xff\xff\xff\xffhost-x86_64-unknown-linux-gnu-",
+        4,
+        0,
+        0,
+    );
+    // the second row is cut off
+    expect_check(
+        b"__CLANG_OFFLOAD_BUNDLE__\x02\0\0\0\0\0\0\0\
+        \x56\0\0\0\0\0\0\0\0\0\0\0\0\0\0\0\x1e\0\0\0\0\0\0\0host-x86_64-unknown-linux-gnu-",
+        4,
+        1,
+        0,
+    );
+    // "`hip-a-b-c-d-:xnack+` is ID."
+    expect_check(
+        b"__CLANG_OFFLOAD_BUNDLE__\x01\0\0\0\0\0\0\0\
+        \x4b\0\0\0\0\0\0\0\0\0\0\0\0\0\0\0\x13\0\0\0\0\0\0\0hip-a-b-c-d-:xnack+",
+        5,
+        0,
+        0,
+    );
+    expect_check(&HOST_SPELLED, 0, 0, 1);
+}
+
+// RANGE.
+pub(crate) fn ranges() {
+    // "Offset equal to the length with size 0: accepted."
+    expect_check(&HOST_ONLY, 0, 0, 1);
+    // "Size 1 there: RANGE."
+    expect_check(
+        b"__CLANG_OFFLOAD_BUNDLE__\x01\0\0\0\0\0\0\0\
+        \x56\0\0\0\0\0\0\0\x01\0\0\0\0\0\0\0\x1e\0\0\0\0\0\0\0host-x86_64-unknown-linux-gnu-",
+        6,
+        0,
+        0,
+    );
+    // an image that would end past the highest number
+    expect_check(
+        b"__CLANG_OFFLOAD_BUNDLE__\x01\0\0\0\0\0\0\0\
+        \x56\0\0\0\0\0\0\0\xff\xff\xff\xff\xff\xff\xff\xff\x1e\0\0\0\0\0\0\0host-x86_64-unknown-linux-gnu-",
+        6,
+        0,
+        0,
+    );
+    expect_check(&HOST, 0, 0, 1);
+}
+
+// TWICE and MIXED.
+pub(crate) fn meanings() {
+    // "The two `gfx906` spellings of the fourth piece together: TWICE."
+    expect_check(
+        b"__CLANG_OFFLOAD_BUNDLE__\x02\0\0\0\0\0\0\0\
+        \xa9\0\0\0\0\0\0\0\0\0\0\0\0\0\0\0\x2c\0\0\0\0\0\0\0hip-amdgcn-amd-amdhsa-gfx906:xnack+:sramecc-\
+        \xa9\0\0\0\0\0\0\0\0\0\0\0\0\0\0\0\x2d\0\0\0\0\0\0\0hip-amdgcn-amd-amdhsa--gfx906:sramecc-:xnack+",
+        7,
+        1,
+        0,
+    );
+    // "Entries `gfx906` and `gfx906:xnack+` together: MIXED at the second."
+    expect_check(
+        b"__CLANG_OFFLOAD_BUNDLE__\x02\0\0\0\0\0\0\0\
+        \x8f\0\0\0\0\0\0\0\0\0\0\0\0\0\0\0\x1c\0\0\0\0\0\0\0hip-amdgcn-amd-amdhsa-gfx906\
+        \x8f\0\0\0\0\0\0\0\0\0\0\0\0\0\0\0\x23\0\0\0\0\0\0\0hip-amdgcn-amd-amdhsa-gfx906:xnack+",
+        8,
+        1,
+        0,
+    );
+    expect_check(&TWO_CARDS, 0, 0, 2);
+    expect_check(&TWO_CARDS_NORMAL, 0, 0, 2);
+}
+
+fn expect_pick(
+    bundle: &[u8],
+    device: &[u8],
+    number: usize,
+    place: usize,
+    index: usize,
+    position: u64,
+    size: u64,
+)
+    requires { ⌜ pick idRules (now bundle) (now device) ≡ record { number = number; place = place; index = index; position = position; size = size } ⌝ }
+{
+    let r = bundle_reader::pick(bundle, device);
+    check::expect(
+        (r.number == number)
+            & (r.place == place)
+            & (r.index == index)
+            & (r.position == position)
+            & (r.size == size),
+    );
+}
+
+// Picked, from a bundle and from its normal form.
+pub(crate) fn picks() {
+    expect_pick(
+        &TWO_CARDS,
+        b"hip-amdgcn-amd-amdhsa-gfx906:sramecc-:xnack+",
+        0,
+        0,
+        1,
+        156,
+        2,
+    );
+    expect_pick(
+        &TWO_CARDS_NORMAL,
+        b"hip-amdgcn-amd-amdhsa-gfx906:sramecc-:xnack+",
+        0,
+        0,
+        0,
+        152,
+        2,
+    );
+}
+
+// Picked: another sign, and an empty image.
+pub(crate) fn more_picks() {
+    expect_pick(
+        &TWO_CARDS,
+        b"hip-amdgcn-amd-amdhsa--gfx906:xnack-",
+        0,
+        0,
+        0,
+        154,
+        3,
+    );
+    expect_pick(&HOST_ONLY, b"host-x86_64-unknown-linux-gnu", 0, 0, 0, 86, 0);
+}
+
+// A refusal of the check, and QUERY.
+pub(crate) fn not_asked() {
+    expect_pick(b"", b"", 2, 0, 0, 0, 0);
+    expect_pick(&HOST, b"", 9, 0, 0, 0, 0);
+    expect_pick(&HOST, b"hip-a-b-c-d-:xnack+", 9, 0, 0, 0, 0);
+}
+
+// NONE.
+pub(crate) fn not_found() {
+    expect_pick(
+        &NO_ENTRIES,
+        b"host-x86_64-unknown-linux-gnu",
+        10,
+        0,
+        0,
+        0,
+        0,
+    );
+    // a feature that the device does not state fits no sign
+    expect_pick(&TWO_CARDS, b"hip-amdgcn-amd-amdhsa-gfx906", 10, 0, 0, 0, 0);
+    // kinds are equal or not
+    expect_pick(
+        &TWO_CARDS,
+        b"hipv4-amdgcn-amd-amdhsa-gfx906:xnack-",
+        10,
+        0,
+        0,
+        0,
+        0,
+    );
+}
+
+fn expect_entry(
+    bundle: &[u8],
+    index: usize,
+    number: usize,
+    position: u64,
+    size: u64,
+    id_position: usize,
+    id_length: usize,
+)
+    requires { ⌜ entryAt idRules (now bundle) index ≡ record { number = number; place = 0; position = position; size = size; «id_position» = «id_position»; «id_length» = «id_length» } ⌝ }
+{
+    let r = bundle_reader::entry(bundle, index);
+    check::expect(
+        (r.number == number)
+            & (r.place == 0)
+            & (r.position == position)
+            & (r.size == size)
+            & (r.id_position == id_position)
+            & (r.id_length == id_length),
+    );
+}
+
+// Entries by their index; past the last, NONE.
+pub(crate) fn entries() {
+    expect_entry(&TWO_CARDS, 1, 0, 156, 2, 115, 35);
+    expect_entry(&TWO_CARDS, 2, 10, 0, 0, 0, 0);
+    expect_entry(&HOST_SPELLED, 18446744073709551615, 10, 0, 0, 0, 0);
+}
+
+// Refusals of the check.
+pub(crate) fn no_entries() {
+    expect_entry(b"", 0, 2, 0, 0, 0, 0);
+    expect_entry(b"__CLANG_OFFLOAD_BUNDLE__", 0, 3, 0, 0, 0, 0);
+}
+
+// What normalising into `out` returns, and what it leaves there.
+fn expect_normalise(
+    bundle: &[u8],
+    out: &mut [u8],
+    number: usize,
+    place: usize,
+    written: usize,
+    after: &[u8],
+)
+    requires { ⌜ (normalise idRules (now bundle) (length (now out)) ≡ record { number = number; place = place; length = written }) × (normalised idRules (now bundle) (now out) ≡ now after) ⌝ }
+{
+    let r = normal_form::normalise(bundle, out);
+    check::expect((r.number == number) & (r.place == place) & (r.length == written));
+    check::expect(check::same(out, after));
+}
+
+// A bundle that is its own normal form; a refusal of the check.
+pub(crate) fn no_entries_normal() {
+    // "its own normal form, 32 bytes"
+    expect_normalise(&NO_ENTRIES, &mut [b'.'; 32], 0, 0, 32, &NO_ENTRIES);
+    // refused by the check
+    expect_normalise(b"", &mut [b'.'; 1], 2, 0, 0, b".");
+}
+
+// Room that is just enough, and ROOM with one byte less.
+pub(crate) fn host_normal() {
+    // "table end 86 and normal length 91"
+    expect_normalise(&HOST_SPELLED, &mut [b'.'; 91], 0, 0, 91, &HOST);
+    expect_normalise(&HOST_SPELLED, &mut [b'.'; 90], 12, 0, 0, &[b'.'; 90]);
+}
+
+// A normal form normalised again.
+pub(crate) fn normal_again() {
+    expect_normalise(&HOST, &mut [b'.'; 91], 0, 0, 91, &HOST);
+    expect_normalise(&HOST_ONLY, &mut [b'.'; 86], 0, 0, 86, &HOST_ONLY);
+}
+
+// Entries sorted and packed, with room that is just enough, and with a byte beyond.
+pub(crate) fn cards_normal() {
+    expect_normalise(&TWO_CARDS, &mut [b'.'; 157], 0, 0, 157, &TWO_CARDS_NORMAL);
+    expect_normalise(
+        &TWO_CARDS,
+        &mut [b'.'; 158],
+        0,
+        0,
+        157,
+        b"__CLANG_OFFLOAD_BUNDLE__\x02\0\0\0\0\0\0\0\
+        \x98\0\0\0\0\0\0\0\x02\0\0\0\0\0\0\0\x24\0\0\0\0\0\0\0hip-amdgcn-amd-amdhsa--gfx906:xnack+\
+        \x9a\0\0\0\0\0\0\0\x03\0\0\0\0\0\0\0\x24\0\0\0\0\0\0\0hip-amdgcn-amd-amdhsa--gfx906:xnack-\
+        cdabc.",
+    );
+}
+
+// ROOM with one byte less, and the normal form normalised again.
+pub(crate) fn cards_again() {
+    expect_normalise(&TWO_CARDS, &mut [b'.'; 156], 12, 0, 0, &[b'.'; 156]);
+    expect_normalise(
+        &TWO_CARDS_NORMAL,
+        &mut [b'.'; 157],
+        0,
+        0,
+        157,
+        &TWO_CARDS_NORMAL,
+    );
+}

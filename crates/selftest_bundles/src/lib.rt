@@ -1,0 +1,29 @@
+// Cases of `selftest`: bundles, on small inputs.
+// What a case expects is a theorem: `expect_..` asks that the definitions give it, and holds what runs to it.
+mod bundle_writer;
+mod bundles;
+
+// Every case.
+pub fn run() {
+    bundles::heads();
+    bundles::tables();
+    bundles::ranges();
+    bundles::meanings();
+    bundles::picks();
+    bundles::more_picks();
+    bundles::not_asked();
+    bundles::not_found();
+    bundles::entries();
+    bundles::no_entries();
+    bundles::no_entries_normal();
+    bundles::host_normal();
+    bundles::normal_again();
+    bundles::cards_normal();
+    bundles::cards_again();
+    bundle_writer::written();
+    bundle_writer::written_before();
+    bundle_writer::no_room();
+    bundle_writer::no_ids();
+    bundle_writer::no_entries();
+    bundle_writer::no_bundle();
+}

@@ -1,0 +1,21 @@
+-- What the definitions compute to: a proof that names one of these on its `unfolding` line opens all that stands on its own line.
+-- Assumes nothing.
+use Rattle.wire.specs.Bytes.{same, before, common, overwrite, empty}
+use Rattle.wire.specs.Word.{bytesOf, wordOf, word}
+use Rattle.wire.specs.Lists.{every, any, agree}
+use Rattle.wire.specs.Order.{insertBy, sortBy, risingBy}
+use Rattle.entry_id.specs.Text.{onFirst, splitOn, joinWith}
+use Rattle.entry_id.specs.Meaning.{fieldsOf, piecesOf, namesProcessor, fifthIsProcessor, feature, meaningOf, meaning, sign, piece, sixFields, canonicalOf, nameByte, fieldByte, kinds, signed, named, shaped, proper, valid, canon}
+use Rattle.entry_id.specs.Canonical.{canonicalIn, headOf, within, signByte, sameButSign, compatibleText, sameText, mixedText}
+use Rattle.entry_id.specs.Compare.{sameTarget, sameFeature, compatible, sameNames, sameMeaning, mixed}
+use Rattle.entry_id.specs.Rules.{idRules}
+
+-- words, comparisons and copies of bytes
+unfoldable pub words : Unit {0}
+unfolding same before common overwrite bytesOf wordOf word
+words = tt
+
+-- entry IDs
+unfoldable pub ids : Unit {0}
+unfolding words empty every any agree insertBy sortBy risingBy onFirst splitOn joinWith fieldsOf piecesOf namesProcessor fifthIsProcessor feature meaningOf meaning sign piece sixFields canonicalOf nameByte fieldByte kinds signed named shaped proper valid canon canonicalIn headOf within signByte sameButSign compatibleText sameText mixedText sameTarget sameFeature compatible sameNames sameMeaning mixed idRules
+ids = tt

@@ -1,0 +1,29 @@
+/* What the tool finds out about a refusal, beyond its number and its place. */
+#ifndef TOOL_FINDING_H
+#define TOOL_FINDING_H
+
+#include "commands.h"
+#include "looks.h"
+#include "refusal.h"
+
+struct finding {
+    uint64_t number;
+    struct refusal refusal;
+    struct looks looks;
+
+    /* The entry at the refusal's place, and an earlier one that is a reason for it. */
+    int has_place;
+    uint64_t place;
+    int has_row;
+    struct row row;
+    int has_earlier;
+    uint64_t earlier;
+    struct row earlier_row;
+
+    const char *kept; /* an output that was there before and is left as it was, or null */
+};
+
+/* What is to be said of a refusal of the first operand, a file, or of the second, a device name. */
+struct finding find_out(const struct request *request, uint64_t number, uint64_t place);
+
+#endif

@@ -1,0 +1,121 @@
+#include "help.h"
+
+#include "offload.h"
+
+#include <stdio.h>
+#include <string.h>
+
+enum { SYNOPSIS = 26, NAME = 8 }; /* widths of columns */
+
+/* What the operands of commands are. */
+static const struct {
+    const char *name;
+    const char *meaning;
+} operands[] = {
+    {"FILE", "a bundle; - is standard input"},
+    {"DEVICE", "a device name, written as an entry ID: hip-amdgcn-amd-amdhsa--gfx906:sramecc+:xnack- (offload help id)"},
+};
+
+static const char output_help[] = "where the output goes, whole or not at all; - is standard output, and the answer goes to standard error";
+
+static const char statuses[] =
+    "\n"
+    "Exit status:\n"
+    "  0  accepted\n"
+    "  1  refused: the bundle is damaged or breaks a rule, or the device name is not written as one must be\n"
+    "  2  bad usage\n"
+    "  3  a file cannot be read or written\n"
+    "  4  no image for this device (NONE)\n";
+
+static const char id_help[] =
+    "Entry IDs, and device names, which are written like them:\n"
+    "\n"
+    "  id        = head { \":\" feature }, with at most 8 features; the ID and its canonical form have 1 to 256 bytes\n"
+    "  head      = kind \"-\" arch \"-\" vendor \"-\" system [ \"-\" fifth | \"-\" environment \"-\" processor ]\n"
+    "  fifth     = processor, if it begins with gfx or sm_ (the environment is then empty)\n"
+    "            | environment, if it does not (there is then no processor)\n"
+    "  kind      = \"host\" | \"hip\" | \"hipv4\" | \"openmp\"\n"
+    "  arch, vendor, system   = one or more of A-Z a-z 0-9 _ .\n"
+    "  environment, processor = zero or more of these; an empty processor is no processor\n"
+    "  feature   = name \"+\" (on) | name \"-\" (off), only where there is a processor\n"
+    "  name      = one or more of a-z 0-9 _, and no name twice in an ID\n"
+    "  canonical = kind-arch-vendor-system-environment-processor, then each \":\" feature in byte order of the names\n"
+    "\n"
+    "hip-amdgcn-amd-amdhsa-gfx906:xnack+:sramecc- has the canonical form hip-amdgcn-amd-amdhsa--gfx906:sramecc-:xnack+.\n"
+    "An entry fits a device when kind, triple (arch, vendor, system, environment) and processor are equal, and every feature\n"
+    "that the entry states is stated by the device with the same sign. Kinds are equal or not: clang's driver writes hipv4.\n";
+
+static void print_meaning(const char *name, const char *meaning) {
+    printf("  %-*s  %s\n", NAME, name, meaning);
+}
+
+static void print_operand(const char *name) {
+    size_t i;
+    for (i = 0; i < sizeof operands / sizeof *operands; i++)
+        if (strcmp(name, operands[i].name) == 0)
+            print_meaning(name, operands[i].meaning);
+}
+
+/* What stands for the output among the words of a command. */
+static const char *output_words(const struct command *command) {
+    return command->output == NO_OUTPUT ? "" : command->output == NEEDS_OUTPUT ? " -o OUT" : " [-o OUT]";
+}
+
+/* Prints the words of a command; how many characters they take. */
+static int print_synopsis(const struct command *command) {
+    int printed = printf("%s", command->name), i;
+    for (i = 0; command->operands[i] != NULL; i++)
+        printed += printf(" %s", command->operands[i]);
+    return printed + printf("%s", output_words(command));
+}
+
+static void print_row(const struct command *command) {
+    int printed;
+    fputs("  offload ", stdout);
+    printed = print_synopsis(command);
+    printf("%*s  %s\n", SYNOPSIS - printed, "", command->summary);
+}
+
+static void print_options(int output) {
+    if (output)
+        print_meaning("-o OUT", output_help);
+    print_meaning("--json", "answer in JSON, one object a line");
+    print_meaning("--", "no option stands after this word");
+    fputs(statuses, stdout);
+}
+
+enum status help_all(void) {
+    const struct command *command;
+    size_t i;
+    printf("offload %s: bundles of GPU images\n\n", OFFLOAD_VERSION);
+    for (command = commands; command->name != NULL; command++)
+        print_row(command);
+    printf("  offload %-*s  %s\n", SYNOPSIS, "help [COMMAND]", "print this text, or more about a command");
+    printf("  offload %-*s  %s\n", SYNOPSIS, "help id", "say how entry IDs and device names are written");
+    printf("  offload %-*s  %s\n\n", SYNOPSIS, "--version", "print the version");
+    for (i = 0; i < sizeof operands / sizeof *operands; i++)
+        print_meaning(operands[i].name, operands[i].meaning);
+    print_options(1);
+    return ACCEPTED;
+}
+
+enum status help_command(const struct command *command) {
+    int i;
+    fputs("offload ", stdout);
+    print_synopsis(command);
+    printf(" [--json]\n\n%s\n", command->help);
+    for (i = 0; command->operands[i] != NULL; i++)
+        print_operand(command->operands[i]);
+    print_options(command->output != NO_OUTPUT);
+    return ACCEPTED;
+}
+
+enum status help_id(void) {
+    fputs(id_help, stdout);
+    return ACCEPTED;
+}
+
+enum status help_version(void) {
+    puts("offload " OFFLOAD_VERSION);
+    return ACCEPTED;
+}

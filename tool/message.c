@@ -1,0 +1,113 @@
+#include "message.h"
+
+#include "finding.h"
+#include "json.h"
+#include "offload.h"
+#include "text.h"
+
+#include <inttypes.h>
+#include <string.h>
+
+static const char *input_name(const char *path) {
+    return strcmp(path, "-") == 0 ? "standard input" : path;
+}
+
+static const char *output_name(const char *path) {
+    return strcmp(path, "-") == 0 ? "standard output" : path;
+}
+
+/* What is refused: the file, the number with its name, and the entry or the device. */
+static void print_subject(const struct request *request, const struct finding *finding) {
+    fprintf(stderr, "offload: %s: %" PRIu64 " %s", input_name(request->operands[0]), finding->number, offload_name(finding->number));
+    if (finding->has_place)
+        fprintf(stderr, ", entry %" PRIu64, finding->place);
+    if (finding->has_row) {
+        putc(' ', stderr);
+        print_quoted(stderr, finding->row.id);
+    }
+    if (finding->has_row && finding->refusal.names == NAMES_IMAGE)
+        fprintf(stderr, " (offset %" PRIu64 ", size %" PRIu64 " in a file of %zu bytes)", finding->row.offset, finding->row.size,
+                request->files[0].length);
+    if (finding->refusal.names == NAMES_DEVICE) {
+        fputs(", device ", stderr);
+        print_quoted(stderr, text_bytes(request->operands[1]));
+    }
+}
+
+static void print_finding(const struct request *request, const struct finding *finding) {
+    print_subject(request, finding);
+    fprintf(stderr, ": %s", finding->refusal.sentence);
+    if (finding->has_earlier) {
+        fprintf(stderr, " It is entry %" PRIu64 " ", finding->earlier);
+        print_quoted(stderr, finding->earlier_row.id);
+        putc('.', stderr);
+    }
+    if (finding->looks.like != NULL)
+        fprintf(stderr, " It looks like %s.", finding->looks.like);
+    fprintf(stderr, "\n  %s\n", finding->refusal.advice);
+    if (finding->kept != NULL)
+        fprintf(stderr, "  %s is left as it was.\n", finding->kept);
+}
+
+static void put_row(struct json *object, const struct finding *finding) {
+    json_bytes(object, "id", finding->row.id);
+    if (finding->refusal.names == NAMES_IMAGE) {
+        json_number(object, "offset", finding->row.offset);
+        json_number(object, "size", finding->row.size);
+    }
+    if (finding->has_earlier) {
+        json_number(object, "earlier", finding->earlier);
+        json_bytes(object, "earlier_id", finding->earlier_row.id);
+    }
+}
+
+static void put_finding(const struct request *request, const struct finding *finding) {
+    struct json object = json_open(request->answer);
+    json_text(&object, "file", request->operands[0]);
+    json_number(&object, "number", finding->number);
+    json_text(&object, "name", offload_name(finding->number));
+    if (finding->has_place)
+        json_number(&object, "place", finding->place);
+    if (finding->has_row)
+        put_row(&object, finding);
+    if (finding->refusal.names == NAMES_DEVICE)
+        json_text(&object, "device", request->operands[1]);
+    json_text(&object, "sentence", finding->refusal.sentence);
+    if (finding->looks.like != NULL)
+        json_text(&object, "looks_like", finding->looks.like);
+    json_text(&object, "advice", finding->refusal.advice);
+    if (finding->kept != NULL)
+        json_text(&object, "kept", finding->kept);
+    json_close(&object);
+}
+
+enum status refuse(const struct request *request, uint64_t number, uint64_t place) {
+    struct finding finding = find_out(request, number, place);
+    if (request->json)
+        put_finding(request, &finding);
+    else
+        print_finding(request, &finding);
+    return number == OFFLOAD_NONE ? NO_IMAGE : REFUSED;
+}
+
+static enum status fail(const struct request *request, const char *what, const char *path, const char *name, const char *why) {
+    struct json object;
+    if (!request->json) {
+        fprintf(stderr, "offload: cannot %s %s: %s\n", what, name, why);
+        return FILE_FAILURE;
+    }
+    object = json_open(request->answer);
+    json_text(&object, "file", path);
+    json_text(&object, "cannot", what);
+    json_text(&object, "reason", why);
+    json_close(&object);
+    return FILE_FAILURE;
+}
+
+enum status cannot_read(const struct request *request, const char *path, const char *why) {
+    return fail(request, "read", path, input_name(path), why);
+}
+
+enum status cannot_write(const struct request *request, const char *path, const char *why) {
+    return fail(request, "write", path, output_name(path), why);
+}

@@ -1,0 +1,65 @@
+#include "usage.h"
+
+#include <string.h>
+
+int is_option(const char *word) {
+    return word[0] == '-' && word[1] != 0;
+}
+
+int is_help(const char *word) {
+    return strcmp(word, "-h") == 0 || strcmp(word, "--help") == 0;
+}
+
+enum status bad_usage(const char *command, const char *wrong, const char *word) {
+    fprintf(stderr, "offload: %s%s%s%s%s\n", command, *command ? ": " : "", wrong, *word ? " " : "", word);
+    fprintf(stderr, "Try: offload help%s%s\n", *command ? " " : "", command);
+    return BAD_USAGE;
+}
+
+static enum wish wrong(const struct command *command, const char *what, const char *word) {
+    bad_usage(command->name, what, word);
+    return WISH_WRONG;
+}
+
+/* Takes the option that the words begin with, and moves to its last word. */
+static enum wish read_option(const struct command *command, char ***words, struct request *request) {
+    char *option = **words;
+    if (is_help(option))
+        return WISH_HELP;
+    if (strcmp(option, "--json") == 0) {
+        request->json = 1;
+        return WISH_RUN;
+    }
+    if (strcmp(option, "-o") != 0 || command->output == NO_OUTPUT)
+        return wrong(command, "unknown option", option);
+    if (request->output != NULL)
+        return wrong(command, "a second", option);
+    request->output = *++*words;
+    return request->output == NULL ? wrong(command, "no file name after", option) : WISH_RUN;
+}
+
+static enum wish nothing_missing(const struct command *command, int count, const struct request *request) {
+    if (command->operands[count] != NULL)
+        return wrong(command, "missing", command->operands[count]);
+    if (command->output == NEEDS_OUTPUT && request->output == NULL)
+        return wrong(command, "missing", "-o OUT");
+    return WISH_RUN;
+}
+
+enum wish read_words(const struct command *command, char **words, struct request *request) {
+    int options = 1, count = 0;
+    for (; *words != NULL; words++) {
+        enum wish wish = WISH_RUN;
+        if (options && strcmp(*words, "--") == 0)
+            options = 0;
+        else if (options && is_option(*words))
+            wish = read_option(command, &words, request);
+        else if (command->operands[count] == NULL)
+            wish = wrong(command, "unexpected word", *words);
+        else
+            request->operands[count++] = *words;
+        if (wish != WISH_RUN)
+            return wish;
+    }
+    return nothing_missing(command, count, request);
+}
