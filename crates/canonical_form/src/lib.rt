@@ -10,9 +10,9 @@ ghost use mathlib.Core.List.{[], _++_};
 ghost use lib.ListN.{length, drop};
 ghost use Rattle.wire.specs.Word.{word};
 ghost use Rattle.canonical_form.specs.Made.{formOf};
-ghost use Rattle.entry_id.specs.Canonical.{headNumber, canonicalIn};
+ghost use Rattle.entry_id.specs.Canonical.{afterKind, headNumber, canonicalIn};
 
-// A canonical form that was made: its length, and a number made from its head alone. Forms with equal heads have equal keys.
+// A canonical form that was made: its length, and a number made from its head behind the kind. Forms that a test of `entry_compare` relates have equal keys.
 pub struct Form {
     pub length: usize,
     pub key: u64,
@@ -33,6 +33,14 @@ fn head_number(head: &[u8]) -> u64
     ensures { λ r. ⌜ r ≡ headNumber (now (head .entry)) ⌝ }
 {
     std::num::wrapping_add_u64(wire_read::word8_at(head, 0), last_word(head))
+}
+
+// That of a head behind its kind: hip and hipv4 are one kind, so the kind does not count.
+fn head_key(head: &[u8]) -> u64
+    ensures { λ r. ⌜ r ≡ headNumber (afterKind (now (head .entry))) ⌝ }
+{
+    let kind = entry_id::find(head, b'-');
+    head_number(&head[kind..])
 }
 
 fn no_form() -> Form
@@ -58,7 +66,7 @@ pub fn canonical(id: &[u8], out: &mut [u8]) -> Form
     let upto = m.upto;
     plan::put_text(out, id, m.at, dashes, upto);
     let stop = m.stop;
-    let key = head_number(&out[..stop + dashes]);
+    let key = head_key(&out[..stop + dashes]);
     plan::put_pieces(out, upto + dashes, id, &spans, m.n);
     Form { length, key }
 }

@@ -1,4 +1,5 @@
-// The tests on two canonical forms: compatible, the same meaning, mixed. Each goes up to the first difference.
+// The tests on two canonical forms: compatible, the same meaning, mixed. The kinds are compared first, hip and hipv4 as one. Behind them each test
+// goes up to the first difference.
 ghost use mathlib.Core.Path.{_≡_};
 ghost use Prim.Native.Nat.{_+_, _≤_};
 ghost use mathlib.Core.Bool.{true, false};
@@ -7,22 +8,16 @@ ghost use Rattle.wire.specs.Lists.{any, agree};
 ghost use Rattle.wire.specs.Bytes.{same, common};
 ghost use Rattle.entry_id.specs.Text.{notColon};
 ghost use Rattle.entry_id.specs.Scan.{Run, piecesAt};
-ghost use Rattle.entry_id.specs.Canonical.{within, signByte, sameButSign, compatibleText, sameText, mixedText};
-ghost use Rattle.entry_compare.specs.Meet.{MeetIs};
+ghost use Rattle.entry_id.specs.Compare.{comparedKind};
+ghost use Rattle.entry_id.specs.Canonical.{within, signByte, sameButSign, compatibleRest, mixedRest, compatibleText, sameText, mixedText};
+ghost use Rattle.entry_compare.specs.Meet.{MeetIs, CutIs};
 
 // The first ':' from `from` on, or the end.
 fn colon(x: &[u8], from: usize) -> usize
     requires { ⌜ from ≤ length (now x) ⌝ }
     ensures { λ r. ⌜ Run notColon (now (x .entry)) from r ⌝ }
 {
-    let mut i = from;
-    while i < x.len() {
-        if x[i] == b':' {
-            return i;
-        }
-        i += 1;
-    }
-    i
+    from + entry_id::find(&x[from..], b':')
 }
 
 // Whether p is among the pieces of x whose head ends at stop.
@@ -98,9 +93,9 @@ fn meet(a: &[u8], b: &[u8], n: usize) -> usize
     e + 1
 }
 
-// Whether an entry is compatible with a device, both in canonical form. The same text is the most common answer, and the quickest.
-pub fn compatible(entry: &[u8], device: &[u8]) -> bool
-    ensures { λ r. ⌜ r ≡ compatibleText (now (entry .entry)) (now (device .entry)) ⌝ }
+// Whether an entry is compatible with a device behind their kinds. The same text is the most common answer, and the quickest.
+fn compatible_rest(entry: &[u8], device: &[u8]) -> bool
+    ensures { λ r. ⌜ r ≡ compatibleRest (now (entry .entry)) (now (device .entry)) ⌝ }
 {
     let n = wire_read::common_prefix(entry, device);
     if (n == entry.len()) & (n == device.len()) {
@@ -113,15 +108,15 @@ pub fn compatible(entry: &[u8], device: &[u8]) -> bool
     all_in(entry, m - 1, device, m - 1)
 }
 
-// How two entries in canonical form stand to each other: the same meaning; equal heads and other feature names.
+// How two entries stand to each other: the same meaning; equal heads and other feature names.
 pub struct Relation {
     pub same: bool,
     pub mixed: bool,
 }
 
-// Both at once, from one common start.
-pub fn relation_of(a: &[u8], b: &[u8]) -> Relation
-    ensures { λ r. ⌜ r ≡ record { same = sameText (now (a .entry)) (now (b .entry)); mixed = mixedText (now (a .entry)) (now (b .entry)) } ⌝ }
+// Both at once behind the kinds, from one common start.
+fn relation_rest(a: &[u8], b: &[u8]) -> Relation
+    ensures { λ r. ⌜ r ≡ record { same = same (now (a .entry)) (now (b .entry)); mixed = mixedRest (now (a .entry)) (now (b .entry)) } ⌝ }
 {
     let n = wire_read::common_prefix(a, b);
     if (n == a.len()) & (n == b.len()) {
@@ -138,4 +133,59 @@ pub fn relation_of(a: &[u8], b: &[u8]) -> Relation
     }
     let mixed = meet(a, b, n) != 0;
     Relation { same: false, mixed }
+}
+
+// The kind that a kind is compared as: hip for hipv4.
+fn compared_kind(kind: &[u8]) -> &[u8]
+    ensures { λ r. ⌜ now r ≡ comparedKind (now (kind .entry)) ⌝ }
+{
+    if wire_read::same_bytes(kind, b"hipv4") {
+        return &kind[..3];
+    }
+    kind
+}
+
+// Two texts cut behind their kinds: where, and whether the kinds are one.
+struct Cut {
+    a: usize,
+    b: usize,
+    one: bool,
+}
+
+fn cut_kinds(a: &[u8], b: &[u8]) -> Cut
+    ensures { λ r. ⌜ CutIs (now (a .entry)) (now (b .entry)) (r .a) (r .b) (r .one) ⌝ }
+{
+    let i = entry_id::find(a, b'-');
+    let j = entry_id::find(b, b'-');
+    let one = wire_read::same_bytes(compared_kind(&a[..i]), compared_kind(&b[..j]));
+    Cut { a: i, b: j, one }
+}
+
+// Whether an entry is compatible with a device, both in canonical form.
+pub fn compatible(entry: &[u8], device: &[u8]) -> bool
+    ensures { λ r. ⌜ r ≡ compatibleText (now (entry .entry)) (now (device .entry)) ⌝ }
+{
+    let c = cut_kinds(entry, device);
+    if !c.one {
+        return false;
+    }
+    let i = c.a;
+    let j = c.b;
+    compatible_rest(&entry[i..], &device[j..])
+}
+
+// How two entries in canonical form stand to each other.
+pub fn relation_of(a: &[u8], b: &[u8]) -> Relation
+    ensures { λ r. ⌜ r ≡ record { same = sameText (now (a .entry)) (now (b .entry)); mixed = mixedText (now (a .entry)) (now (b .entry)) } ⌝ }
+{
+    let c = cut_kinds(a, b);
+    if !c.one {
+        return Relation {
+            same: false,
+            mixed: false,
+        };
+    }
+    let i = c.a;
+    let j = c.b;
+    relation_rest(&a[i..], &b[j..])
 }

@@ -1,45 +1,57 @@
 use borrow.Author.Needs.{needs}
-use native.Mathlib.Omega.{arith}
-use mathlib.Core.Path.{sym, _∙_}
-use Rattle.entry_compare.proofs.TestLaws.{compatible-self, compatible-no, compatible-yes, whole-same}
+use mathlib.Core.Path.{_∙_}
+use borrow.Author.Tests.{not-true, not-false}
+use Rattle.entry_id.specs.Canonical.{compatibleRest, compatibleText}
+use Rattle.entry_id.specs.Scan.{part}
+use Rattle.entry_compare.proofs.KindLaws.{kinds-differ, behind-kinds}
 use Rattle.entry_compare.proofs.compatible.Statement.{statement}
 use Rattle.entry_compare.proofs.compatible.Tie as tie
 
-common-prefix-requires : tie.Need-common-prefix-requires
-common-prefix-requires c κs = search needs
+cut-kinds-requires : tie.Need-cut-kinds-requires
+cut-kinds-requires c κs = search needs
 
 returns : tie.Need-returns
-returns c = let n = c .before .common-prefix in
-    compatible-self _ _ (sym (whole-same _ _ (n .result) (n .ensures)) ∙ c .if1 .taken)
+unfolding compatibleText
+returns c = kinds-differ _ _ _ _ _ (c .before .before .cut-kinds .ensures) compatibleRest (not-true _ (c .if1 .taken))
 
-meet-requires : tie.Need-meet-requires
-meet-requires c κs = search needs
+sub-compatible-rest : tie.Need-sub-compatible-rest
+sub-compatible-rest c = search needs
+
+part-compatible-rest-start : tie.Need-part-compatible-rest-start
+part-compatible-rest-start c = search needs
+
+part-compatible-rest-end : tie.Need-part-compatible-rest-end
+part-compatible-rest-end c = search needs
+
+sub-compatible-rest-2 : tie.Need-sub-compatible-rest-2
+sub-compatible-rest-2 c = search needs
+
+part-compatible-rest-start-2 : tie.Need-part-compatible-rest-start-2
+part-compatible-rest-start-2 c = search needs
+
+part-compatible-rest-end-2 : tie.Need-part-compatible-rest-end-2
+part-compatible-rest-end-2 c = search needs
+
+compatible-rest-requires : tie.Need-compatible-rest-requires
+compatible-rest-requires c κs = search needs
 
 returns-2 : tie.Need-returns-2
-returns-2 c = compatible-no _ _ (c .before .meet .result) (c .before .meet .ensures) (c .if2 .taken)
-
-sub-all-in : tie.Need-sub-all-in
-sub-all-in c = search needs
-
-sub-all-in-2 : tie.Need-sub-all-in-2
-sub-all-in-2 c = search needs
-
-all-in-requires : tie.Need-all-in-requires
-all-in-requires c κs = search needs
-
-returns-3 : tie.Need-returns-3
-returns-3 c = let m = c .before .before .meet in
-    c .all-in .ensures ∙ compatible-yes _ _ (m .result) (m .ensures) (omega (arith, c .before .if2 .left))
+unfolding compatibleText part
+returns-2 c =
+    c .compatible-rest .ensures
+    ∙ behind-kinds _ _ _ _ _ (c .before .before .before .before .before .cut-kinds .ensures) compatibleRest (not-false _ (c .before .before .before .if1 .left))
 
 pub compatible-spec : {M : Type 1} → statement M
 compatible-spec =
     tie.close
     (tie.spec
-    common-prefix-requires
+    cut-kinds-requires
     returns
-    meet-requires
-    returns-2
-    sub-all-in
-    sub-all-in-2
-    all-in-requires
-    returns-3)
+    sub-compatible-rest
+    part-compatible-rest-start
+    part-compatible-rest-end
+    sub-compatible-rest-2
+    part-compatible-rest-start-2
+    part-compatible-rest-end-2
+    compatible-rest-requires
+    returns-2)

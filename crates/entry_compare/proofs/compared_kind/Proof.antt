@@ -1,0 +1,30 @@
+use borrow.Author.Needs.{needs}
+use mathlib.Core.Path.{sym, _∙_}
+use Rattle.entry_compare.proofs.KindLaws.{three-of, hip-of, as-spelled}
+use Rattle.entry_compare.proofs.compared_kind.Statement.{statement}
+use Rattle.entry_compare.proofs.compared_kind.Tie as tie
+
+slice-aggregate-same-bytes : tie.Need-slice-aggregate-same-bytes
+slice-aggregate-same-bytes c = search needs
+
+same-bytes-requires : tie.Need-same-bytes-requires
+same-bytes-requires c κs = search needs
+
+slice-aggregate-result : tie.Need-slice-aggregate-result
+slice-aggregate-result c = three-of _ (sym (c .before .before .same-bytes .ensures) ∙ c .before .if1 .taken)
+
+returns : tie.Need-returns
+returns c = hip-of _ (sym (c .before .before .same-bytes .ensures) ∙ c .before .if1 .taken)
+
+returns-2 : tie.Need-returns-2
+returns-2 c = as-spelled _ (sym (c .before .same-bytes .ensures) ∙ c .if1 .left)
+
+pub compared-kind-spec : {M : Type 1} → statement M
+compared-kind-spec =
+    tie.close
+    (tie.spec
+    slice-aggregate-same-bytes
+    same-bytes-requires
+    slice-aggregate-result
+    returns
+    returns-2)
