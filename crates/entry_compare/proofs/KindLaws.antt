@@ -3,7 +3,7 @@ use Prim.Native.Nat.{ℕ}
 use mathlib.Core.Path.{_≡_, sym, ap₂, _∙_}
 use mathlib.Core.Bool.{Bool, true, false}
 use mathlib.Core.List.{List}
-use lib.ListN.{length, take}
+use lib.ListN.{length}
 use Rattle.wire.specs.Bytes.{bytes, same}
 use Rattle.wire.proofs.Bools.{of-true}
 use Rattle.wire.proofs.ByteLaws.{same-eq}
@@ -14,15 +14,8 @@ use Rattle.entry_id.proofs.RunLaws.{part-rest}
 use Rattle.entry_compare.specs.Meet.{CutIs}
 
 module _ (k : List ℕ) where
-  four : same k (bytes "hipv4") ≡ true → k ≡ bytes "hipv4"
-  four e = same-eq k (bytes "hipv4") (of-true _ e)
-
-  pub three-of : same k (bytes "hipv4") ≡ true → 3 ≡ length (take 3 k)
-  three-of e = rw (four e)
-
-  pub hip-of : same k (bytes "hipv4") ≡ true → take 3 k ≡ comparedKind k
-  unfolding comparedKind same
-  hip-of e = rw (four e)
+  pub is-four : same k (bytes "hipv4") ≡ true → k ≡ bytes "hipv4"
+  is-four e = same-eq k (bytes "hipv4") (of-true _ e)
 
   pub as-spelled : same k (bytes "hipv4") ≡ false → k ≡ comparedKind k
   unfolding comparedKind
