@@ -23,8 +23,7 @@ diff <(
 0 bytes for the card, the first is 0
 no image for this card
 status 4
-no image for this card
-status 4
+2248 bytes for the card, the first is 127
 refused: 6 RANGE
 status 1
 refused: 6 RANGE
