@@ -1,5 +1,5 @@
 -- The examples that are marked * in RULES B, B.1 to B.10 and B.16: one table under one claim. Statements only.
-use Prim.Native.Nat.{ℕ}
+use Prim.Native.Nat.{ℕ, _+_}
 use mathlib.Core.Path.{_≡_}
 use mathlib.Core.Bool.{true, false}
 use mathlib.Core.List.{List, [], _∷_, _++_}
@@ -26,12 +26,22 @@ host = bytes "host-x86_64-unknown-linux-gnu-"
 abbrev pub gfx906 : List ℕ
 gfx906 = bytes "hip-amdgcn-amd-amdhsa-gfx906"
 
--- the same target with the other spelling of its kind, and with another kind
-abbrev pub gfx906four : List ℕ
-gfx906four = bytes "hipv4-amdgcn-amd-amdhsa-gfx906"
+-- one target with both spellings of a kind, and with another kind
+abbrev pub hip : List ℕ
+hip = bytes "hip-a-b-c--gfx906"
 
-abbrev pub gfx906openmp : List ℕ
-gfx906openmp = bytes "openmp-amdgcn-amd-amdhsa-gfx906"
+abbrev pub hipv4 : List ℕ
+hipv4 = bytes "hipv4-a-b-c--gfx906"
+
+abbrev pub openmp : List ℕ
+openmp = bytes "openmp-a-b-c--gfx906"
+
+-- with the feature xnack, on and off
+abbrev pub on : List ℕ → List ℕ
+on x = x ++ bytes ":xnack+"
+
+abbrev pub off : List ℕ → List ℕ
+off x = x ++ bytes ":xnack-"
 
 -- "Magic and eight zero bytes"
 abbrev pub noEntries : List ℕ
@@ -45,9 +55,12 @@ oneHost size body = bundle (record { offset = 86; size = size; id = host } ∷ [
 abbrev pub twoAt : ℕ → List ℕ → List ℕ → List ℕ
 twoAt end x y = bundle (record { offset = end; size = 0; id = x } ∷ record { offset = end; size = 0; id = y } ∷ []) []
 
--- one entry, its image at the end of the table
-abbrev pub oneAt : ℕ → List ℕ → List ℕ → List ℕ
-oneAt end x image = bundle (record { offset = end; size = length image; id = x } ∷ []) image
+abbrev pub two : List ℕ → List ℕ → List ℕ
+two x y = twoAt (80 + length x + length y) x y
+
+-- one entry with an image of five bytes
+abbrev pub one : List ℕ → List ℕ
+one x = bundle (record { offset = 56 + length x; size = 5; id = x } ∷ []) (bytes "image")
 
 abbrev pub bare : Contents
 bare = record { imageKind = 0; offloadKind = 0; flags = 0; image = []; strings = [] }
@@ -83,17 +96,21 @@ pub record Examples : Type 0 where
   pub other-names : check idRules (twoAt 143 gfx906 (gfx906 ++ bytes ":xnack+")) ≡ record { number = 8; place = 1; count = 0 }
   -- "The two `gfx906` spellings of the fourth piece together: TWICE."
   pub two-spellings : check idRules (twoAt 169 (bytes "hip-amdgcn-amd-amdhsa-gfx906:xnack+:sramecc-") (bytes "hip-amdgcn-amd-amdhsa--gfx906:sramecc-:xnack+")) ≡ record { number = 7; place = 1; count = 0 }
-  -- "a bundle with both spellings of one entry is refused by 7", at the second of them; other feature names across the spellings are MIXED
-  pub kinds-twice : check idRules (twoAt 138 gfx906 gfx906four) ≡ record { number = 7; place = 1; count = 0 }
-  pub kinds-mixed : check idRules (twoAt 145 gfx906 (gfx906four ++ bytes ":xnack+")) ≡ record { number = 8; place = 1; count = 0 }
+  -- "a bundle with both spellings of one entry is refused by 7": at the second, whichever comes first
+  pub kinds-twice : check idRules (two (on hip) (on hipv4)) ≡ record { number = 7; place = 1; count = 0 }
+  pub kinds-twice-turned : check idRules (two (on hipv4) (on hip)) ≡ record { number = 7; place = 1; count = 0 }
+  -- TWICE and MIXED "treat them as equal": other feature names across the spellings are MIXED, the same names with other signs are neither
+  pub kinds-mixed : check idRules (two hip (on hipv4)) ≡ record { number = 8; place = 1; count = 0 }
+  pub kinds-mixed-turned : check idRules (two (on hipv4) hip) ≡ record { number = 8; place = 1; count = 0 }
+  pub kinds-signs : check idRules (two (on hip) (off hipv4)) ≡ record { number = 0; place = 0; count = 2 }
   -- "compatibility treats them as equal": a device name with either spelling picks an entry with the other
-  pub picks-hip : pick idRules (oneAt 84 gfx906 (bytes "image")) gfx906four ≡ record { number = 0; place = 0; index = 0; position = 84; size = 5 }
-  pub picks-hipv4 : pick idRules (oneAt 86 gfx906four (bytes "image")) gfx906 ≡ record { number = 0; place = 0; index = 0; position = 86; size = 5 }
-  -- other kinds stay apart
-  pub kinds-apart : check idRules (twoAt 139 gfx906 gfx906openmp) ≡ record { number = 0; place = 0; count = 2 }
-  pub picks-none : pick idRules (oneAt 84 gfx906 (bytes "image")) gfx906openmp ≡ record { number = 10; place = 0; index = 0; position = 0; size = 0 }
+  pub picks-hip : pick idRules (two (on hip) (off hipv4)) (on hipv4) ≡ record { number = 0; place = 0; index = 0; position = 130; size = 0 }
+  pub picks-hipv4 : pick idRules (one hipv4) hip ≡ record { number = 0; place = 0; index = 0; position = 75; size = 5 }
+  -- any other two kinds differ
+  pub kinds-apart : check idRules (two hip (on openmp)) ≡ record { number = 0; place = 0; count = 2 }
+  pub picks-none : pick idRules (one hip) openmp ≡ record { number = 10; place = 0; index = 0; position = 0; size = 0 }
   -- "demand 3 still counts the two spellings as different entries": bundles that differ in the spelling alone have different normal forms
-  pub normals-apart : same (normal idRules (oneAt 84 gfx906 (bytes "image"))) (normal idRules (oneAt 86 gfx906four (bytes "image"))) ≡ false
+  pub normals-apart : same (normal idRules (one hip)) (normal idRules (one hipv4)) ≡ false
   -- "Offset equal to the length with size 0: accepted. Size 1 there: RANGE."
   pub at-end : check idRules (oneHost 0 []) ≡ record { number = 0; place = 0; count = 1 }
   pub past-end : check idRules (oneHost 1 []) ≡ record { number = 6; place = 0; count = 0 }
