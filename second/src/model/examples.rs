@@ -150,8 +150,14 @@ fn picks_across_hip_and_hipv4() {
 fn canonical_forms_keep_the_kind() {
     assert_eq!(canonical_text("hipv4-a-b-c"), "hipv4-a-b-c--");
     assert_eq!(canonical_text("hip-a-b-c"), "hip-a-b-c--");
-    assert_eq!(normal(&bundle(&[("hipv4-a-b-c", b"x")])), bundle(&[("hipv4-a-b-c--", b"x")]));
-    assert_eq!(normal(&bundle(&[("hip-a-b-c", b"x")])), bundle(&[("hip-a-b-c--", b"x")]));
+}
+
+#[test]
+fn normal_forms_of_hip_and_of_hipv4_differ() {
+    let [hip, hipv4] = ["hip-a-b-c", "hipv4-a-b-c"].map(|id| normal(&bundle(&[(id, b"x")])));
+    assert_eq!(hip, bundle(&[("hip-a-b-c--", b"x")]));
+    assert_eq!(hipv4, bundle(&[("hipv4-a-b-c--", b"x")]));
+    assert_ne!(hip, hipv4);
 }
 
 #[test]
