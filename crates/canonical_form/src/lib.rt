@@ -10,9 +10,10 @@ ghost use mathlib.Core.List.{[], _++_};
 ghost use lib.ListN.{length, drop};
 ghost use Rattle.wire.specs.Word.{word};
 ghost use Rattle.canonical_form.specs.Made.{formOf};
-ghost use Rattle.entry_id.specs.Canonical.{afterKind, headNumber, canonicalIn};
+ghost use Rattle.entry_id.specs.Canonical.{kindPart, afterKind, headNumber, keyOf, canonicalIn};
+ghost use Rattle.canonical_form.specs.Heads.{Kinded};
 
-// A canonical form that was made: its length, and a number made from its head behind the kind. Forms that a test of `entry_compare` relates have equal keys.
+// A canonical form that was made: its length, and a number made from its head. Forms that a test of `entry_compare` relates have equal keys.
 pub struct Form {
     pub length: usize,
     pub key: u64,
@@ -35,12 +36,31 @@ fn head_number(head: &[u8]) -> u64
     std::num::wrapping_add_u64(wire_read::word8_at(head, 0), last_word(head))
 }
 
-// That of a head behind its kind: hip and hipv4 are one kind, so the kind does not count.
-fn head_key(head: &[u8]) -> u64
-    ensures { λ r. ⌜ r ≡ headNumber (afterKind (now (head .entry))) ⌝ }
+// The length of the kind that a head starts with. Its first, second and fourth bytes tell.
+fn kind_length(head: &[u8]) -> usize
+    requires { ⌜ Kinded (now head) ⌝ }
+    ensures { λ r. ⌜ r ≡ length (kindPart (now (head .entry))) ⌝ }
 {
-    let kind = entry_id::find(head, b'-');
-    head_number(&head[kind..])
+    if head[0] == b'o' {
+        return 6;
+    }
+    if head[1] == b'o' {
+        return 4;
+    }
+    if head[3] == b'-' {
+        return 3;
+    }
+    5
+}
+
+// The key of a form with this head. hipv4, of 5 bytes, is compared as hip, of 3.
+fn head_key(head: &[u8]) -> u64
+    requires { ⌜ Kinded (now head) ⌝ }
+    ensures { λ r. ⌜ r ≡ keyOf (kindPart (now (head .entry))) (afterKind (now (head .entry))) ⌝ }
+{
+    let kind = kind_length(head);
+    let compared = if kind == 5 { 3 } else { kind };
+    std::num::wrapping_add_u64(head_number(&head[kind..]), compared as u64)
 }
 
 fn no_form() -> Form

@@ -11,7 +11,8 @@ use borrow.Author.Tests.{eqb-true, eqb-false, eq-eqb, ne-eqb, lt-ltb, le-ltb, lt
 use Rattle.wire.specs.Lists.{agree, any, every}
 use Rattle.entry_id.specs.Text.{splitOn, onFirst, otherThan, notColon}
 use Rattle.wire.specs.Bytes.{same, common}
-use Rattle.entry_id.proofs.TextLaws.{split-some, every-imp}
+use Rattle.entry_id.proofs.TextLaws.{every-imp}
+use Rattle.entry_id.proofs.KindLaws.{head-none, head-colon, head-more}
 use Rattle.wire.proofs.Bools.{cases, byBool, clash, and-both, or-true, and-false, of-true, is-true, and-l, and-r, and-t, or-l, or-r}
 use Rattle.wire.proofs.ByteLaws.{same-refl, same-eq, same-length, same-common, common-within}
 use Rattle.entry_id.specs.Meaning.{piecesOf}
@@ -84,19 +85,6 @@ common-take (x ∷ s) (y ∷ t) (suc n) h = byBool (eqb x y)
 common-get : (s t : List ℕ) (i : ℕ) → i < common s t → getD s i 0 ≡ getD t i 0
 common-get s t i h =
     sym (getD-take (suc i) s i 0 (omega arith)) ∙ ap (λ l. getD l i 0) (common-take s t (suc i) (omega arith)) ∙ getD-take (suc i) t i 0 (omega arith)
-
--- the head of a text, byte by byte
-head-none : headOf [] ≡ []
-unfolding headOf splitOn
-head-none = refl
-
-head-colon : (y : ℕ) (x : List ℕ) → y ≡ 58 → headOf (y ∷ x) ≡ []
-unfolding headOf splitOn
-head-colon y x e = rw (eq-eqb y 58 e)
-
-head-more : (y : ℕ) (x : List ℕ) → (y ≡ 58 → ⊥) → headOf (y ∷ x) ≡ y ∷ headOf x
-unfolding headOf splitOn onFirst
-head-more y x n = let (q, qs, e) = split-some 58 x in rw (ne-eqb y 58 n, e)
 
 module _ (x : List ℕ) (i : ℕ) where
   head-ends : endsAt x i ≡ true → headOf (drop i x) ≡ []

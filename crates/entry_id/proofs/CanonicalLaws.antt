@@ -13,12 +13,12 @@ use Rattle.wire.proofs.ByteLaws.{same-refl, same-eq}
 use Rattle.wire.proofs.Bools.{bool-ext, byBool, of-true, and-l, and-r, and-t, and-assoc}
 use Rattle.entry_id.specs.Meaning.{Meaning, piecesOf, piece, sixFields, canonicalOf, meaning, valid, canon}
 use Rattle.entry_id.specs.Compare.{comparedKind, comparedAs, sameTarget, sameFeature, compatible, sameNames, sameMeaning, mixed}
-use Rattle.entry_id.specs.Canonical.{headOf, afterKind, within, sameButSign, ofOneKind, compatibleRest, mixedRest, compatibleText, sameText, mixedText}
+use Rattle.entry_id.specs.Canonical.{headOf, kindPart, afterKind, within, sameButSign, ofOneKind, compatibleRest, mixedRest, compatibleText, sameText, mixedText}
 use Rattle.entry_id.proofs.ReadBack.{Proper, Plain, parts, proper-meaning, plain-meaning, canon-is, head-write, pieces-back, meaning-write}
 use Rattle.entry_id.proofs.FeatureLaws.{sameFeature-eq, sameFeature-refl, agree-eq, agree-refl}
 use Rattle.entry_id.proofs.CompareLaws.{within-pieces, fields-heads}
 use Rattle.entry_id.proofs.SignLaws.{alike-names}
-use Rattle.entry_id.proofs.KindLaws.{bare, bare-plain, after-head, kind-test}
+use Rattle.entry_id.proofs.KindLaws.{bare, bare-plain, kind-head, after-head, kind-test}
 
 -- ---- heads
 
@@ -30,6 +30,9 @@ head-canon x v = ap (λ l. getD (splitOn 58 l) 0 []) (canon-is x v) ∙ head-wri
 pub head-after : (x : List ℕ) → T (valid x) → afterKind (headOf (canon x)) ≡ headOf (afterKind (canon x))
 head-after x v =
     ap afterKind (head-canon x v) ∙ after-head (meaning x) (parts (meaning x) (proper-meaning x v)) ∙ ap (λ l. headOf (afterKind l)) (sym (canon-is x v))
+
+pub head-kind : (x : List ℕ) → T (valid x) → kindPart (headOf (canon x)) ≡ kindPart (canon x)
+head-kind x v = ap kindPart (head-canon x v) ∙ kind-head (meaning x) (parts (meaning x) (proper-meaning x v)) ∙ ap kindPart (sym (canon-is x v))
 
 -- ---- the tests behind the kind, on what is written of two meanings
 

@@ -1,31 +1,36 @@
--- Texts that a test relates have equal heads behind their kinds, and so equal numbers. Assumes nothing.
-use Prim.Native.Nat.{ℕ}
-use mathlib.Core.Path.{_≡_, ap}
-use mathlib.Core.Bool.{Bool, true}
+-- Texts that a test relates have one kind and behind it equal heads, and so equal numbers. Assumes nothing.
+use Prim.Native.Nat.{ℕ, _+_, _%_, _^_}
+use mathlib.Core.Path.{_≡_, ap, ap₂}
+use mathlib.Core.Bool.{Bool, true, _&&_}
 use mathlib.Core.List.{List}
+use lib.ListN.{length}
 use Rattle.wire.specs.Bytes.{same}
 use Rattle.wire.proofs.Bools.{and-both, of-true}
 use Rattle.wire.proofs.ByteLaws.{same-eq}
 use Rattle.entry_id.specs.Compare.{comparedKind}
-use Rattle.entry_id.specs.Canonical.{kindPart, afterKind, headOf, headNumber, headKey, ofOneKind, compatibleRest, mixedRest, compatibleText, sameText, mixedText}
+use Rattle.entry_id.specs.Canonical.{kindPart, afterKind, headOf, headNumber, keyOf, headKey, ofOneKind, compatibleRest, mixedRest, compatibleText, sameText, mixedText}
 
 module _ (a b : List ℕ) where
-  key-head : same (headOf (afterKind a)) (headOf (afterKind b)) ≡ true → headKey a ≡ headKey b
-  unfolding headKey
-  key-head e = ap headNumber (same-eq _ _ (of-true _ e))
+  key-by : same (comparedKind (kindPart a)) (comparedKind (kindPart b)) ≡ true → headOf (afterKind a) ≡ headOf (afterKind b) → headKey a ≡ headKey b
+  unfolding headKey keyOf
+  key-by k h = ap₂ (λ (x y : List ℕ). (headNumber x + length y) % 2 ^ 64) h (same-eq _ _ (of-true _ k))
 
-  behind : (test : List ℕ → List ℕ → Bool) → ofOneKind test a b ≡ true → test (afterKind a) (afterKind b) ≡ true
+  -- a test that tells heads apart
+  key-test : (test : List ℕ → List ℕ → Bool) → (test (afterKind a) (afterKind b) ≡ true → headOf (afterKind a) ≡ headOf (afterKind b)) → ofOneKind test a b ≡ true → headKey a ≡ headKey b
   unfolding ofOneKind
-  behind test e = and-both (same (comparedKind (kindPart a)) (comparedKind (kindPart b))) _ e .1
+  key-test test h e = let (k, t) = and-both _ _ e in key-by k (h t)
+
+  same-heads : (x y : List ℕ) (b : Bool) → (same (headOf x) (headOf y) && b) ≡ true → headOf x ≡ headOf y
+  same-heads x y b e = same-eq _ _ (of-true _ (and-both (same (headOf x) (headOf y)) b e .0))
 
   pub key-same : sameText a b ≡ true → headKey a ≡ headKey b
-  unfolding headKey sameText
-  key-same e = ap (λ z. headNumber (headOf z)) (same-eq _ _ (of-true _ (behind same e)))
+  unfolding sameText
+  key-same e = key-test same (λ t. ap headOf (same-eq _ _ (of-true _ t))) e
 
   pub key-mixed : mixedText a b ≡ true → headKey a ≡ headKey b
   unfolding mixedText mixedRest
-  key-mixed e = key-head (and-both _ _ (behind mixedRest e) .0)
+  key-mixed e = key-test mixedRest (same-heads _ _ _) e
 
   pub key-compatible : compatibleText a b ≡ true → headKey a ≡ headKey b
   unfolding compatibleText compatibleRest
-  key-compatible e = key-head (and-both _ _ (behind compatibleRest e) .0)
+  key-compatible e = key-test compatibleRest (same-heads _ _ _) e

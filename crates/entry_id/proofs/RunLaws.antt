@@ -16,7 +16,6 @@ use Rattle.entry_id.specs.Text.{splitOn, otherThan}
 use Rattle.wire.proofs.Bools.{and-t, of-true, cases}
 use Rattle.entry_id.proofs.TextLaws.{every-append, split-last, split-skip}
 use Rattle.wire.proofs.ByteLaws.{same-length}
-use Rattle.entry_id.specs.Canonical.{kindPart, afterKind}
 use Rattle.entry_id.specs.Scan.{part, Run, piecesAt}
 
 -- ---- parts
@@ -102,16 +101,6 @@ cut-run c x a r h =
   where
     other : T (otherThan c c) → ⊥
     other t = rw (eq-eqb c c refl) at t
-
--- a run of bytes other than '-' from the start is the kind
-module _ (x : List ℕ) (r : ℕ) (h : Run (otherThan 45) x 0 r) where
-  pub kind-run : take r x ≡ kindPart x
-  unfolding kindPart
-  kind-run = sym (ap (λ (l : List (List ℕ)). getD l 0 []) (cut-run 45 x 0 r h) ∙ part-start x r)
-
-  pub after-run : drop r x ≡ afterKind x
-  unfolding afterKind
-  after-run = ap (λ n. drop n x) (sym (length-take-le r x (h .high)) ∙ ap length kind-run)
 
 -- ---- bytes
 

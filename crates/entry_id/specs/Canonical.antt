@@ -10,7 +10,7 @@ use Rattle.wire.specs.Lists.{agree, any, every}
 use Rattle.wire.specs.Bytes.{same}
 use Rattle.wire.specs.Word.{word}
 use Rattle.entry_id.specs.Text.{splitOn}
-use Rattle.entry_id.specs.Meaning.{piecesOf, canon}
+use Rattle.entry_id.specs.Meaning.{fieldsOf, piecesOf, canon}
 use Rattle.entry_id.specs.Compare.{comparedKind}
 
 -- the canonical form where it fits `room` bytes, else nothing; room for 256 bytes is enough for every ID
@@ -21,9 +21,9 @@ canonicalIn room x = cond (leb (length (canon x)) room) (canon x) []
 unfoldable pub headOf : List ℕ → List ℕ
 headOf x = getD (splitOn (code ":") x) 0 []
 
--- the text before its first '-': of a canonical form the kind
+-- its first field: of a canonical form the kind
 unfoldable pub kindPart : List ℕ → List ℕ
-kindPart x = getD (splitOn (code "-") x) 0 []
+kindPart x = getD (fieldsOf x) 0 []
 
 -- the text behind it
 unfoldable pub afterKind : List ℕ → List ℕ
@@ -33,9 +33,13 @@ afterKind x = drop (length (kindPart x)) x
 unfoldable pub headNumber : List ℕ → ℕ
 headNumber h = (word 8 h 0 + word 8 h (length h - 8)) % 2 ^ 64
 
--- that of the head behind its kind, so that texts that a test below relates have equal ones
+-- a number made from a kind and a head behind it: the head's, and the length of the kind that the kind is compared as
+unfoldable pub keyOf : List ℕ → List ℕ → ℕ
+keyOf k h = (headNumber h + length (comparedKind k)) % 2 ^ 64
+
+-- that of a text's: texts that a test below relates have equal ones
 unfoldable pub headKey : List ℕ → ℕ
-headKey x = headNumber (headOf (afterKind x))
+headKey x = keyOf (kindPart x) (headOf (afterKind x))
 
 -- each piece of ps stands among qs
 unfoldable pub within : List (List ℕ) → List (List ℕ) → Bool

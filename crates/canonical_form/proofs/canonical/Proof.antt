@@ -1,12 +1,13 @@
 -- `canonical_form::canonical` meets its contract. Assumes nothing.
 use Prim.Native.Nat.{_+_, _≤_}
-use mathlib.Core.Path.{sym, _∙_, ap}
+use mathlib.Core.Path.{sym, _∙_, ap, subst}
 use lib.ListN.{length}
 use lib.Seq.{length-take-le}
 use borrow.Author.Tests.{not-true, not-false}
-use Rattle.entry_id.specs.Canonical.{canonicalIn, afterKind, headNumber}
+use Rattle.entry_id.specs.Canonical.{canonicalIn, kindPart, afterKind, keyOf}
 use Rattle.wire.proofs.OverwriteLaws.{length-overwrite}
-use Rattle.canonical_form.proofs.PlanLaws.{no-form-is, canon-none, canon-small, plan-length, canon-written, head-written, form-is}
+use Rattle.canonical_form.specs.Heads.{Kinded}
+use Rattle.canonical_form.proofs.PlanLaws.{no-form-is, canon-none, canon-small, plan-length, canon-written, head-written, head-kinded, form-is}
 use native.Mathlib.Omega.{arith}
 use borrow.Author.Needs.{needs}
 use Rattle.canonical_form.proofs.canonical.Statement.{statement}
@@ -90,7 +91,17 @@ slice-aggregate-head-key c =
     sym (length-take-le (m .stop + m .dashes) (h .last .0) (omega (arith, z, pl .below, pl .within, c .before .before .before .before .before .if2 .left)))
 
 head-key-requires : tie.Need-head-key-requires
-head-key-requires c κs = search needs
+head-key-requires c κs =
+    let x = c .before .before .before .before .before .before .before .before .before .before .before .before .before .args .id .now in
+    let o = c .before .before .before .before .before .before .before .before .before .before .before .before .before .args .out .now in
+    let m = c .before .before .before .before .before .before .before .before .before .read .result in
+    let t = c .before .before .before .before .before .before .before .before .before .read .last .1 .0 in
+    let pl = c .before .before .before .before .before .before .before .before .before .read .ensures .found (not-false _ (c .before .before .before .before .before .before .if1 .left)) in
+    let h = c .before .before .before .put-text in
+    let room : length x + m .dashes ≤ length o = c .before .before .before .before .before .if2 .left in
+    subst Kinded
+    (sym (head-written x (m .at) (m .dashes) (m .stop) (m .upto) (m .n) t pl o room (h .last .0) (h .ensures)))
+    (head-kinded x (m .at) (m .dashes) (m .stop) (m .upto) (m .n) t pl o room)
 
 add-put-pieces : tie.Need-add-put-pieces
 add-put-pieces c =
@@ -129,7 +140,7 @@ returns-3 c =
     let q = c .before .before .put-pieces in
     let room : length x + m .dashes ≤ length o = c .before .before .before .before .before .before .before .before .before .before .before .if2 .left in
     let hd = head-written x (m .at) (m .dashes) (m .stop) (m .upto) (m .n) t pl o room (h .last .0) (h .ensures) in
-    (form-is x (m .at) (m .dashes) (m .stop) (m .upto) (m .n) t pl o room (w .result) (w .ensures ∙ ap (λ h. headNumber (afterKind h)) hd), canon-written x (m .at) (m .dashes) (m .stop) (m .upto) (m .n) t pl o room (h .last .0) (q .last .0) (h .ensures) (q .ensures))
+    (form-is x (m .at) (m .dashes) (m .stop) (m .upto) (m .n) t pl o room (w .result) (w .ensures ∙ ap (λ h. keyOf (kindPart h) (afterKind h)) hd), canon-written x (m .at) (m .dashes) (m .stop) (m .upto) (m .n) t pl o room (h .last .0) (q .last .0) (h .ensures) (q .ensures))
 
 pub canonical-spec : {M : Type 1} → statement M
 canonical-spec =

@@ -1,19 +1,24 @@
-use borrow.Author.Needs.{needs}
-use mathlib.Core.Path.{ap, _∙_}
+use Prim.Native.Nat.{_+_, _%_, _^_}
+use mathlib.Core.Path.{ap, ap₂, _∙_}
+use mathlib.Core.Logic.{⊎-elim}
+use lib.ListN.{drop}
 use Rattle.entry_id.specs.Scan.{part}
-use Rattle.entry_id.specs.Canonical.{headNumber}
-use Rattle.entry_id.proofs.RunLaws.{part-rest, after-run}
+use Rattle.entry_id.specs.Canonical.{headNumber, keyOf, afterKind}
+use Rattle.entry_id.proofs.RunLaws.{part-rest}
+use native.Mathlib.Omega.{arith}
+use Rattle.canonical_form.proofs.KeyLaws.{kind-short, five-as-three, others-as-spelled}
+use borrow.Author.Needs.{needs}
 use Rattle.canonical_form.proofs.head_key.Statement.{statement}
 use Rattle.canonical_form.proofs.head_key.Tie as tie
 
-find-requires : tie.Need-find-requires
-find-requires c κs = search needs
+kind-length-requires : tie.Need-kind-length-requires
+kind-length-requires c κs = search needs
 
 sub-head-number : tie.Need-sub-head-number
-sub-head-number c = search needs
+sub-head-number c = omega (arith, c .before .kind-length .ensures, kind-short _ (c .before .before .before .pre) .1)
 
 part-head-number-start : tie.Need-part-head-number-start
-part-head-number-start c = search needs
+part-head-number-start c = omega (arith, c .before .kind-length .ensures, kind-short _ (c .before .before .before .pre) .1)
 
 part-head-number-end : tie.Need-part-head-number-end
 part-head-number-end c = search needs
@@ -21,19 +26,28 @@ part-head-number-end c = search needs
 head-number-requires : tie.Need-head-number-requires
 head-number-requires c κs = search needs
 
+wrapping-add-u64-requires : tie.Need-wrapping-add-u64-requires
+wrapping-add-u64-requires c κs = search needs
+
 returns : tie.Need-returns
-unfolding part
+unfolding keyOf afterKind part
 returns c =
-    let k = c .before .before .find in
-    c .head-number .ensures ∙ ap headNumber (part-rest _ (k .result) ∙ after-run _ (k .result) (k .ensures))
+    let x = c .before .before .before .before .before .before .args .head .now in
+    let h = c .before .before .before .before .before .before .pre in
+    let k = c .before .before .before .before .kind-length in
+    c .wrapping-add-u64 .ensures
+    ∙ ap₂ (λ n m. (n + m) % 2 ^ 64)
+    (c .before .head-number .ensures ∙ ap headNumber (part-rest x (k .result) ∙ ap (λ n. drop n x) (k .ensures)))
+    (⊎-elim (λ w. w .1 ∙ five-as-three x h _ (k .ensures) (w .0 .taken)) (λ w. w .1 ∙ others-as-spelled x h _ (k .ensures) (w .0 .left)) (c .before .before .before .if1 .came))
 
 pub head-key-spec : {M : Type 1} → statement M
 head-key-spec =
     tie.close
     (tie.spec
-    find-requires
+    kind-length-requires
     sub-head-number
     part-head-number-start
     part-head-number-end
     head-number-requires
+    wrapping-add-u64-requires
     returns)

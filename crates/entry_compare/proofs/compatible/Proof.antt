@@ -1,57 +1,32 @@
 use borrow.Author.Needs.{needs}
 use mathlib.Core.Path.{_∙_}
-use borrow.Author.Tests.{not-true, not-false}
 use Rattle.entry_id.specs.Canonical.{compatibleRest, compatibleText}
-use Rattle.entry_id.specs.Scan.{part}
-use Rattle.entry_compare.proofs.KindLaws.{kinds-differ, behind-kinds}
+use Rattle.entry_compare.proofs.KindLaws.{compatible-head, uncut}
 use Rattle.entry_compare.proofs.compatible.Statement.{statement}
 use Rattle.entry_compare.proofs.compatible.Tie as tie
 
-cut-kinds-requires : tie.Need-cut-kinds-requires
-cut-kinds-requires c κs = search needs
+common-prefix-requires : tie.Need-common-prefix-requires
+common-prefix-requires c κs = search needs
+
+compatible-cut-requires : tie.Need-compatible-cut-requires
+compatible-cut-requires c κs = search needs
 
 returns : tie.Need-returns
-unfolding compatibleText
-returns c = kinds-differ _ _ _ _ _ (c .before .before .cut-kinds .ensures) compatibleRest (not-true _ (c .if1 .taken))
+returns c = c .compatible-cut .ensures
 
-sub-compatible-rest : tie.Need-sub-compatible-rest
-sub-compatible-rest c = search needs
-
-part-compatible-rest-start : tie.Need-part-compatible-rest-start
-part-compatible-rest-start c = search needs
-
-part-compatible-rest-end : tie.Need-part-compatible-rest-end
-part-compatible-rest-end c = search needs
-
-sub-compatible-rest-2 : tie.Need-sub-compatible-rest-2
-sub-compatible-rest-2 c = search needs
-
-part-compatible-rest-start-2 : tie.Need-part-compatible-rest-start-2
-part-compatible-rest-start-2 c = search needs
-
-part-compatible-rest-end-2 : tie.Need-part-compatible-rest-end-2
-part-compatible-rest-end-2 c = search needs
-
-compatible-rest-requires : tie.Need-compatible-rest-requires
-compatible-rest-requires c κs = search needs
+compatible-from-requires : tie.Need-compatible-from-requires
+compatible-from-requires c κs = search needs
 
 returns-2 : tie.Need-returns-2
-unfolding compatibleText part
-returns-2 c =
-    c .compatible-rest .ensures
-    ∙ behind-kinds _ _ _ _ _ (c .before .before .before .before .before .cut-kinds .ensures) compatibleRest (not-false _ (c .before .before .before .if1 .left))
+unfolding compatibleText
+returns-2 c = c .compatible-from .ensures ∙ uncut _ _ _ (c .before .before .common-prefix .ensures) (c .before .if1 .left) compatibleRest compatible-head
 
 pub compatible-spec : {M : Type 1} → statement M
 compatible-spec =
     tie.close
     (tie.spec
-    cut-kinds-requires
+    common-prefix-requires
+    compatible-cut-requires
     returns
-    sub-compatible-rest
-    part-compatible-rest-start
-    part-compatible-rest-end
-    sub-compatible-rest-2
-    part-compatible-rest-start-2
-    part-compatible-rest-end-2
-    compatible-rest-requires
+    compatible-from-requires
     returns-2)

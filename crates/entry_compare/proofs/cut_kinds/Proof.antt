@@ -3,24 +3,23 @@ use mathlib.Core.Path.{sym, ap, ap₂, _∙_}
 use lib.Seq.{length-take-le}
 use Rattle.wire.specs.Bytes.{same}
 use Rattle.entry_id.specs.Compare.{comparedKind}
-use Rattle.entry_id.proofs.RunLaws.{kind-run, after-run}
 use Rattle.entry_compare.proofs.cut_kinds.Statement.{statement}
 use Rattle.entry_compare.proofs.cut_kinds.Tie as tie
 
-find-requires : tie.Need-find-requires
-find-requires c κs = search needs
+kind-end-requires : tie.Need-kind-end-requires
+kind-end-requires c κs = search needs
 
-find-requires-2 : tie.Need-find-requires-2
-find-requires-2 c κs = search needs
+kind-end-requires-2 : tie.Need-kind-end-requires-2
+kind-end-requires-2 c κs = search needs
 
 slice-aggregate-compared-kind : tie.Need-slice-aggregate-compared-kind
-slice-aggregate-compared-kind c = sym (length-take-le _ _ (c .before .before .find .ensures .high))
+slice-aggregate-compared-kind c = sym (length-take-le _ _ (c .before .before .kind-end .ensures .within))
 
 compared-kind-requires : tie.Need-compared-kind-requires
 compared-kind-requires c κs = search needs
 
 slice-aggregate-compared-kind-2 : tie.Need-slice-aggregate-compared-kind-2
-slice-aggregate-compared-kind-2 c = sym (length-take-le _ _ (c .before .before .before .find2 .ensures .high))
+slice-aggregate-compared-kind-2 c = sym (length-take-le _ _ (c .before .before .before .kind-end2 .ensures .within))
 
 compared-kind-requires-2 : tie.Need-compared-kind-requires-2
 compared-kind-requires-2 c κs = search needs
@@ -30,26 +29,22 @@ same-bytes-requires c κs = search needs
 
 returns : tie.Need-returns
 returns c =
-    let i = c .before .before .before .before .before .before .find in
-    let j = c .before .before .before .before .before .find2 in
+    let i = c .before .before .before .before .before .before .kind-end .ensures in
+    let j = c .before .before .before .before .before .kind-end2 .ensures in
     record {
-      in-a = i .ensures .high;
-      in-b = j .ensures .high;
-      after-a = after-run _ (i .result) (i .ensures);
-      after-b = after-run _ (j .result) (j .ensures);
+      in-a = i;
+      in-b = j;
       kinds =
           c .same-bytes .ensures
-          ∙ ap₂ same
-          (c .before .before .before .compared-kind .ensures ∙ ap comparedKind (kind-run _ (i .result) (i .ensures)))
-          (c .before .compared-kind2 .ensures ∙ ap comparedKind (kind-run _ (j .result) (j .ensures)));
+          ∙ ap₂ same (c .before .before .before .compared-kind .ensures ∙ ap comparedKind (i .kind)) (c .before .compared-kind2 .ensures ∙ ap comparedKind (j .kind));
     }
 
 pub cut-kinds-spec : {M : Type 1} → statement M
 cut-kinds-spec =
     tie.close
     (tie.spec
-    find-requires
-    find-requires-2
+    kind-end-requires
+    kind-end-requires-2
     slice-aggregate-compared-kind
     compared-kind-requires
     slice-aggregate-compared-kind-2

@@ -2,15 +2,11 @@ use borrow.Author.Needs.{needs}
 use native.Mathlib.Omega.{arith}
 use mathlib.Core.Path.{sym, _∙_}
 use Rattle.entry_compare.proofs.TestLaws.{compatible-self, compatible-no, compatible-yes, whole-same}
-use Rattle.entry_compare.proofs.compatible_rest.Statement.{statement}
-use Rattle.entry_compare.proofs.compatible_rest.Tie as tie
-
-common-prefix-requires : tie.Need-common-prefix-requires
-common-prefix-requires c κs = search needs
+use Rattle.entry_compare.proofs.compatible_from.Statement.{statement}
+use Rattle.entry_compare.proofs.compatible_from.Tie as tie
 
 returns : tie.Need-returns
-returns c = let n = c .before .common-prefix in
-    compatible-self _ _ (sym (whole-same _ _ (n .result) (n .ensures)) ∙ c .if1 .taken)
+returns c = compatible-self _ _ (sym (whole-same _ _ _ (c .before .before .before .pre)) ∙ c .if1 .taken)
 
 meet-requires : tie.Need-meet-requires
 meet-requires c κs = search needs
@@ -31,11 +27,10 @@ returns-3 : tie.Need-returns-3
 returns-3 c = let m = c .before .before .meet in
     c .all-in .ensures ∙ compatible-yes _ _ (m .result) (m .ensures) (omega (arith, c .before .if2 .left))
 
-pub compatible-rest-spec : {M : Type 1} → statement M
-compatible-rest-spec =
+pub compatible-from-spec : {M : Type 1} → statement M
+compatible-from-spec =
     tie.close
     (tie.spec
-    common-prefix-requires
     returns
     meet-requires
     returns-2

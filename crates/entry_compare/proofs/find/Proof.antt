@@ -1,4 +1,4 @@
--- `entry_id::find` meets its contract. The loop's invariant: no byte so far is a c. Assumes nothing.
+-- `entry_compare::find` meets its contract. The loop's invariant: no byte so far is a c. Assumes nothing.
 use Prim.Native.Nat.{_≤_, _-_}
 use mathlib.Core.Bool.{not}
 use mathlib.Core.Path.{ap}
@@ -6,12 +6,12 @@ use lib.ListN.{length}
 use lib.Dec.{T}
 use borrow.Author.Tests.{eq-eqb, ne-eqb}
 use Rattle.wire.specs.Lists.{every}
 use Rattle.entry_id.specs.Text.{otherThan}
 use Rattle.entry_id.specs.Scan.{part}
 use Rattle.entry_id.proofs.RunLaws.{run-none, run-more}
 use native.Mathlib.Omega.{arith}
-use Rattle.entry_id.proofs.find.Statement.{statement}
-use Rattle.entry_id.proofs.find.Tie as tie
+use Rattle.entry_compare.proofs.find.Statement.{statement}
+use Rattle.entry_compare.proofs.find.Tie as tie
 
 abbrev Inv-loop : tie.InvT-loop
 Inv-loop x c i₀ i = (i ≤ length x) × T (every (otherThan c) (part x 0 i))
