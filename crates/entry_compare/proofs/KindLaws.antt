@@ -16,28 +16,28 @@ use Rattle.wire.proofs.ByteLaws.{same-eq, same-refl}
 use Rattle.entry_id.specs.Text.{splitOn, otherThan, notColon}
 use Rattle.entry_id.specs.Meaning.{fieldsOf, piecesOf}
 use Rattle.entry_id.specs.Compare.{comparedKind}
-use Rattle.entry_id.specs.Canonical.{headOf, kindPart, afterKind, within, compatibleRest, mixedRest, ofOneKind}
+use Rattle.entry_id.specs.Canonical.{headOf, kindPart, afterKind, within, compatibleSpelled, mixedSpelled, ofOneKind}
 use Rattle.entry_id.specs.Theorems.{hipKind}
 use Rattle.entry_id.specs.Scan.{part, Run}
 use Rattle.entry_id.proofs.TextLaws.{split-some, split-start}
 use Rattle.entry_id.proofs.ReadBack.{no-colon}
 use Rattle.entry_id.proofs.SignLaws.{agree-self}
 use Rattle.entry_id.proofs.RunLaws.{part-rest, part-start, cut-run}
-use Rattle.entry_id.proofs.KindLaws.{ends, kind-whole, kind-plain, after-none, after-ends, after-more, kinds-apart}
+use Rattle.entry_id.proofs.KindLaws.{ends, kind-cut, kind-whole, kind-plain, after-none, after-ends, after-more, kinds-apart}
 use Rattle.entry_compare.specs.Meet.{KindEnds, CutIs}
 
 -- ---- where the first field ends
 
-module _ (x : List ℕ) (e r : ℕ) (h : Run notColon x 0 e) (k : Run (otherThan 45) (take e x) 0 r) where
+module _ (x : List ℕ) (d r : ℕ) (h : Run (otherThan 45) x 0 d) (k : Run notColon (take d x) 0 r) where
   first : (c : ℕ) (y : List ℕ) (n : ℕ) → Run (otherThan c) y 0 n → getD (splitOn c y) 0 [] ≡ take n y
   first c y n s = ap (λ (l : List (List ℕ)). getD l 0 []) (cut-run c y 0 n s) ∙ part-start y n
 
-  below : r ≤ e
-  below = omega (arith, k .high, length-take-le e x (h .high))
+  below : r ≤ d
+  below = omega (arith, k .high, length-take-le d x (h .high))
 
   kind-is : take r x ≡ kindPart x
-  unfolding kindPart fieldsOf
-  kind-is = sym (ap (λ y. getD (splitOn 45 y) 0 []) (first 58 x e h) ∙ first 45 (take e x) r k ∙ take-take r e x below)
+  unfolding headOf
+  kind-is = sym (kind-cut x ∙ ap headOf (first 45 x d h) ∙ first 58 (take d x) r k ∙ take-take r d x below)
 
   pub kind-ends : KindEnds x r
   unfolding afterKind
@@ -93,15 +93,15 @@ pub record ByHead (test : List ℕ → List ℕ → Bool) : Type 0 where
 heads-start : (p a b : List ℕ) → T (every notColon p) → same (headOf (p ++ a)) (headOf (p ++ b)) ≡ same (headOf a) (headOf b)
 heads-start p a b t = ap₂ same (head-start p t a) (head-start p t b) ∙ same-start p (headOf a) (headOf b)
 
-pub compatible-head : ByHead compatibleRest
-unfolding compatibleRest
+pub compatible-head : ByHead compatibleSpelled
+unfolding compatibleSpelled
 compatible-head = record {
   start = λ p a b t. ap₂ _&&_ (heads-start p a b t) (ap₂ within (pieces-start p t b) (pieces-start p t a));
   apart = λ a b e. rw e;
 }
 
-pub mixed-head : ByHead mixedRest
-unfolding mixedRest
+pub mixed-head : ByHead mixedSpelled
+unfolding mixedSpelled
 mixed-head = record {
   start = λ p a b t. ap₂ (λ x y. x && not y) (heads-start p a b t) (agree-self p a b);
   apart = λ a b e. rw e;

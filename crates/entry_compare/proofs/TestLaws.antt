@@ -18,7 +18,7 @@ use Rattle.wire.proofs.ByteLaws.{same-refl, same-eq, same-length, same-common, 
 use Rattle.entry_id.specs.Meaning.{piecesOf}
 use Rattle.entry_id.specs.Scan.{part, Run, piecesAt, endsAt}
 use Rattle.entry_compare.specs.Meet.{MeetIs}
-use Rattle.entry_id.specs.Canonical.{headOf, within, signByte, sameButSign, compatibleRest, mixedRest}
+use Rattle.entry_id.specs.Canonical.{headOf, within, signByte, sameButSign, compatibleSpelled, mixedSpelled}
 use Rattle.entry_id.proofs.RunLaws.{cut-run, part-start, pieces-here, pieces-none}
 use native.Mathlib.Omega.{arith}
 use native.Mathlib.Numerals.{add-one}
@@ -211,17 +211,17 @@ unfolding endsAt
 ends-past x e h = rw (le-ltb e (length x) h)
 
 module _ (a b : List ℕ) (r : ℕ) (m : MeetIs a b r) where
-  pub compatible-yes : 0 < r → within (piecesAt b (r - 1)) (piecesAt a (r - 1)) ≡ compatibleRest a b
-  unfolding compatibleRest
+  pub compatible-yes : 0 < r → within (piecesAt b (r - 1)) (piecesAt a (r - 1)) ≡ compatibleSpelled a b
+  unfolding compatibleSpelled
   compatible-yes h = let f = m .found h in rw (f .0, pieces-is a (r - 1) (f .1 .0), pieces-is b (r - 1) (f .1 .1))
 
-  pub compatible-no : r ≡ 0 → false ≡ compatibleRest a b
-  unfolding compatibleRest
+  pub compatible-no : r ≡ 0 → false ≡ compatibleSpelled a b
+  unfolding compatibleSpelled
   compatible-no h = rw (m .differ h)
 
   -- of texts that are not the same but for signs
-  pub mixed-meet : agree sameButSign a b ≡ false → (q : Bool) → (0 < r → q ≡ true) → (r ≡ 0 → q ≡ false) → q ≡ mixedRest a b
-  unfolding mixedRest
+  pub mixed-meet : agree sameButSign a b ≡ false → (q : Bool) → (0 < r → q ≡ true) → (r ≡ 0 → q ≡ false) → q ≡ mixedSpelled a b
+  unfolding mixedSpelled
   mixed-meet e q f g = elim (cases (ltb 0 r)) [
     | inl z ↦ let k = ltb-true 0 r z in rw (e, m .found k .0) (f k)
     | inr z ↦ let k : r ≡ 0 = omega (arith, ltb-false 0 r z) in rw (e, m .differ k) (g k)
@@ -236,14 +236,14 @@ within-self (x ∷ l) =
     (every-imp (λ p. any (same p) l) (λ p. any (same p) (x ∷ l)) (λ p t. or-r (same p x) (any (same p) l) t) l (within-self l))
 
 -- a text is compatible with itself
-pub compatible-self : (a b : List ℕ) → same a b ≡ true → true ≡ compatibleRest a b
-unfolding compatibleRest within
+pub compatible-self : (a b : List ℕ) → same a b ≡ true → true ≡ compatibleSpelled a b
+unfolding compatibleSpelled within
 compatible-self a b e =
     sym (is-true _ (and-t (same (headOf a) (headOf a)) (within (piecesOf a) (piecesOf a)) (same-refl (headOf a)) (within-self (piecesOf a))))
-    ∙ ap (compatibleRest a) (same-eq a b (of-true (same a b) e))
+    ∙ ap (compatibleSpelled a) (same-eq a b (of-true (same a b) e))
 
-pub mixed-alike : (a b : List ℕ) → agree sameButSign a b ≡ true → false ≡ mixedRest a b
-unfolding mixedRest
+pub mixed-alike : (a b : List ℕ) → agree sameButSign a b ≡ true → false ≡ mixedSpelled a b
+unfolding mixedSpelled
 mixed-alike a b e = rw e (sym (and-false (same (headOf a) (headOf b))))
 
 -- ---- two texts, the same but for signs up to i

@@ -8,7 +8,7 @@ ghost use Rattle.wire.specs.Bytes.{same, common};
 ghost use Rattle.entry_id.specs.Text.{otherThan, notColon};
 ghost use Rattle.entry_id.specs.Scan.{Run, piecesAt};
 ghost use Rattle.entry_id.specs.Compare.{comparedKind};
-ghost use Rattle.entry_id.specs.Canonical.{within, signByte, sameButSign, compatibleRest, mixedRest, compatibleText, sameText, mixedText};
+ghost use Rattle.entry_id.specs.Canonical.{within, signByte, sameButSign, compatibleSpelled, mixedSpelled, compatibleText, sameText, mixedText};
 ghost use Rattle.entry_compare.specs.Meet.{MeetIs, KindEnds, CutIs};
 
 // Where the first c stands, or the end.
@@ -110,7 +110,7 @@ fn meet(a: &[u8], b: &[u8], n: usize) -> usize
 // quickest.
 fn compatible_from(entry: &[u8], device: &[u8], n: usize) -> bool
     requires { ⌜ n ≡ common (now entry) (now device) ⌝ }
-    ensures { λ r. ⌜ r ≡ compatibleRest (now (entry .entry)) (now (device .entry)) ⌝ }
+    ensures { λ r. ⌜ r ≡ compatibleSpelled (now (entry .entry)) (now (device .entry)) ⌝ }
 {
     if (n == entry.len()) & (n == device.len()) {
         return true;
@@ -131,7 +131,7 @@ pub struct Relation {
 // Both at once, kinds as spelled. The common start has n bytes.
 fn relation_from(a: &[u8], b: &[u8], n: usize) -> Relation
     requires { ⌜ n ≡ common (now a) (now b) ⌝ }
-    ensures { λ r. ⌜ r ≡ record { same = same (now (a .entry)) (now (b .entry)); mixed = mixedRest (now (a .entry)) (now (b .entry)) } ⌝ }
+    ensures { λ r. ⌜ r ≡ record { same = same (now (a .entry)) (now (b .entry)); mixed = mixedSpelled (now (a .entry)) (now (b .entry)) } ⌝ }
 {
     if (n == a.len()) & (n == b.len()) {
         return Relation {
@@ -153,8 +153,8 @@ fn relation_from(a: &[u8], b: &[u8], n: usize) -> Relation
 fn kind_end(x: &[u8]) -> usize
     ensures { λ r. ⌜ KindEnds (now (x .entry)) r ⌝ }
 {
-    let e = colon(x, 0);
-    find(&x[..e], b'-')
+    let d = find(x, b'-');
+    find(&x[..d], b':')
 }
 
 // The kind that a kind is compared as: hip for hipv4.

@@ -13,7 +13,7 @@ use Rattle.wire.proofs.ByteLaws.{same-refl, same-eq}
 use Rattle.wire.proofs.Bools.{bool-ext, byBool, of-true, and-l, and-r, and-t, and-assoc}
 use Rattle.entry_id.specs.Meaning.{Meaning, piecesOf, piece, sixFields, canonicalOf, meaning, valid, canon}
 use Rattle.entry_id.specs.Compare.{comparedKind, comparedAs, sameTarget, sameFeature, compatible, sameNames, sameMeaning, mixed}
-use Rattle.entry_id.specs.Canonical.{headOf, kindPart, afterKind, within, sameButSign, ofOneKind, compatibleRest, mixedRest, compatibleText, sameText, mixedText}
+use Rattle.entry_id.specs.Canonical.{headOf, kindPart, afterKind, within, sameButSign, ofOneKind, compatibleSpelled, mixedSpelled, compatibleText, sameText, mixedText}
 use Rattle.entry_id.proofs.ReadBack.{Proper, Plain, parts, proper-meaning, plain-meaning, canon-is, head-write, pieces-back, meaning-write}
 use Rattle.entry_id.proofs.FeatureLaws.{sameFeature-eq, sameFeature-refl, agree-eq, agree-refl}
 use Rattle.entry_id.proofs.CompareLaws.{within-pieces, fields-heads}
@@ -42,8 +42,8 @@ module _ (a b : Meaning) (s : Plain a) (t : Plain b) where
   heads-are = ap₂ same (head-write a s) (head-write b t) ∙ sym (fields-heads a b s t)
 
   -- entry a and device b
-  rest-compatible : compatibleRest (canonicalOf a) (canonicalOf b) ≡ (agree same (sixFields a) (sixFields b) && every (λ f. any (sameFeature f) (b .features)) (a .features))
-  unfolding compatibleRest
+  rest-compatible : compatibleSpelled (canonicalOf a) (canonicalOf b) ≡ (agree same (sixFields a) (sixFields b) && every (λ f. any (sameFeature f) (b .features)) (a .features))
+  unfolding compatibleSpelled
   rest-compatible = ap₂ _&&_ heads-are (ap₂ within (pieces-back b t) (pieces-back a s) ∙ within-pieces (a .features) (b .features))
 
   -- with the same head
@@ -54,8 +54,8 @@ module _ (a b : Meaning) (s : Plain a) (t : Plain b) where
       ap (λ fs. agree sameButSign (canonicalOf a) (joinWith (code ":") (joinWith (code "-") fs ∷ map piece (b .features)))) (sym h)
       ∙ alike-names (joinWith (code "-") (sixFields a)) (a .features) (b .features) (s .all-named) (t .all-named)
 
-  rest-mixed : mixedRest (canonicalOf a) (canonicalOf b) ≡ (agree same (sixFields a) (sixFields b) && not (sameNames (a .features) (b .features)))
-  unfolding mixedRest
+  rest-mixed : mixedSpelled (canonicalOf a) (canonicalOf b) ≡ (agree same (sixFields a) (sixFields b) && not (sameNames (a .features) (b .features)))
+  unfolding mixedSpelled
   rest-mixed =
       ap (λ (h : Bool). h && not (agree sameButSign (canonicalOf a) (canonicalOf b))) heads-are
       ∙ byBool (agree same (sixFields a) (sixFields b)) (λ e. ap (λ (n : Bool). agree same (sixFields a) (sixFields b) && not n) (alike-written (of-true _ e))) (λ e. rw e)
@@ -104,11 +104,11 @@ module _ (x y : List ℕ) (v : T (valid x)) (w : T (valid y)) where
   -- entry x is compatible with device y
   pub compatible-canonical : compatibleText (canon x) (canon y) ≡ compatible m n
   unfolding compatibleText compatible bare
-  compatible-canonical = by-parts compatibleRest _ (rest-compatible (bare m) (bare n) (bare-plain m good-m) (bare-plain n good-n))
+  compatible-canonical = by-parts compatibleSpelled _ (rest-compatible (bare m) (bare n) (bare-plain m good-m) (bare-plain n good-n))
 
   pub mixed-canonical : mixedText (canon x) (canon y) ≡ mixed m n
   unfolding mixedText mixed bare
-  mixed-canonical = by-parts mixedRest _ (rest-mixed (bare m) (bare n) (bare-plain m good-m) (bare-plain n good-n))
+  mixed-canonical = by-parts mixedSpelled _ (rest-mixed (bare m) (bare n) (bare-plain m good-m) (bare-plain n good-n))
 
   pub same-canonical : sameText (canon x) (canon y) ≡ sameMeaning m n
   unfolding sameText sameMeaning bare

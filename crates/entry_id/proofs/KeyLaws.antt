@@ -8,7 +8,7 @@ use Rattle.wire.specs.Bytes.{same}
 use Rattle.wire.proofs.Bools.{and-both, of-true}
 use Rattle.wire.proofs.ByteLaws.{same-eq}
 use Rattle.entry_id.specs.Compare.{comparedKind}
-use Rattle.entry_id.specs.Canonical.{kindPart, afterKind, headOf, headNumber, keyOf, headKey, ofOneKind, compatibleRest, mixedRest, compatibleText, sameText, mixedText}
+use Rattle.entry_id.specs.Canonical.{kindPart, afterKind, headOf, headNumber, keyOf, headKey, ofOneKind, compatibleSpelled, mixedSpelled, compatibleText, sameText, mixedText}
 
 module _ (a b : List ℕ) where
   key-by : same (comparedKind (kindPart a)) (comparedKind (kindPart b)) ≡ true → headOf (afterKind a) ≡ headOf (afterKind b) → headKey a ≡ headKey b
@@ -28,9 +28,9 @@ module _ (a b : List ℕ) where
   key-same e = key-test same (λ t. ap headOf (same-eq _ _ (of-true _ t))) e
 
   pub key-mixed : mixedText a b ≡ true → headKey a ≡ headKey b
-  unfolding mixedText mixedRest
-  key-mixed e = key-test mixedRest (same-heads _ _ _) e
+  unfolding mixedText mixedSpelled
+  key-mixed e = key-test mixedSpelled (same-heads _ _ _) e
 
   pub key-compatible : compatibleText a b ≡ true → headKey a ≡ headKey b
-  unfolding compatibleText compatibleRest
-  key-compatible e = key-test compatibleRest (same-heads _ _ _) e
+  unfolding compatibleText compatibleSpelled
+  key-compatible e = key-test compatibleSpelled (same-heads _ _ _) e

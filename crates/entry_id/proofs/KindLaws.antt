@@ -7,7 +7,7 @@ use mathlib.Core.List.{List, [], _∷_, _++_, map, append-assoc}
 use lib.ListN.{length, getD, drop}
 use lib.Seq.{drop-append-seam}
 use lib.Dec.{T, eqb}
-use borrow.Author.Tests.{eq-eqb, ne-eqb}
+use borrow.Author.Tests.{eq-eqb, ne-eqb, eqb-true, eqb-false}
 use Rattle.wire.specs.Bytes.{bytes, same}
 use Rattle.wire.specs.Lists.{every}
 use Rattle.wire.proofs.Bools.{byBool, of-true, is-true, and-t, and-true, or-true, or-false, or-neither}
@@ -60,6 +60,17 @@ kind-more y x e =
 pub after-none : afterKind [] ≡ []
 unfolding afterKind
 after-none = rw kind-none
+
+-- the two cuts in either order
+pub kind-cut : (x : List ℕ) → kindPart x ≡ headOf (getD (splitOn 45 x) 0 [])
+unfolding splitOn onFirst ends
+kind-cut [] = rw (kind-none, head-none)
+kind-cut (y ∷ x) =
+    byBool (ends y)
+    (λ e. kind-ends y x e ∙ byBool (eqb y 45) (λ d. rw (d, head-none)) (λ d. let (k, ks, f) = split-some 45 x in rw (d, f) (sym (head-colon y k (eqb-true y 58 (rw d at e))))))
+    (λ e. let (d, c) = or-neither (eqb y 45) (eqb y 58) e in
+    let (k, ks, f) = split-some 45 x in
+    kind-more y x e ∙ ap (λ l. y ∷ l) (kind-cut x) ∙ rw (d, f) (sym (head-more y k (eqb-false y 58 c))))
 
 module _ (y : ℕ) (x : List ℕ) where
   pub after-ends : ends y ≡ true → afterKind (y ∷ x) ≡ y ∷ x

@@ -55,23 +55,23 @@ sameButSign x y = eqb x y || (signByte x && signByte y)
 
 -- ---- the tests on two texts
 
--- on what follows the kind: the same head, and each piece of the entry's is one of the device's
-unfoldable pub compatibleRest : List ℕ → List ℕ → Bool
-compatibleRest e d = same (headOf e) (headOf d) && within (piecesOf d) (piecesOf e)
+-- as they are spelled: the same head, and each piece of the entry's is one of the device's
+unfoldable pub compatibleSpelled : List ℕ → List ℕ → Bool
+compatibleSpelled e d = same (headOf e) (headOf d) && within (piecesOf d) (piecesOf e)
 
--- equal heads and other feature names: texts with the same names are the same but for signs
-unfoldable pub mixedRest : List ℕ → List ℕ → Bool
-mixedRest a b = same (headOf a) (headOf b) && not (agree sameButSign a b)
+-- as they are spelled: equal heads and other feature names; texts with the same names are the same but for signs
+unfoldable pub mixedSpelled : List ℕ → List ℕ → Bool
+mixedSpelled a b = same (headOf a) (headOf b) && not (agree sameButSign a b)
 
--- the kinds are compared as one kind, and what follows them passes the test
+-- the kinds are compared as one kind, and what follows them passes a test as it is spelled
 unfoldable pub ofOneKind : (List ℕ → List ℕ → Bool) → List ℕ → List ℕ → Bool
 ofOneKind test a b = same (comparedKind (kindPart a)) (comparedKind (kindPart b)) && test (afterKind a) (afterKind b)
 
 unfoldable pub compatibleText : List ℕ → List ℕ → Bool
-compatibleText = ofOneKind compatibleRest
+compatibleText = ofOneKind compatibleSpelled
 
 unfoldable pub sameText : List ℕ → List ℕ → Bool
 sameText = ofOneKind same
 
 unfoldable pub mixedText : List ℕ → List ℕ → Bool
-mixedText = ofOneKind mixedRest
+mixedText = ofOneKind mixedSpelled

@@ -5,17 +5,17 @@ use Rattle.entry_compare.proofs.KindLaws.{kind-ends}
 use Rattle.entry_compare.proofs.kind_end.Statement.{statement}
 use Rattle.entry_compare.proofs.kind_end.Tie as tie
 
-colon-requires : tie.Need-colon-requires
-colon-requires c κs = search needs
-
-slice-aggregate-find : tie.Need-slice-aggregate-find
-slice-aggregate-find c = sym (length-take-le _ _ (c .before .colon .ensures .high))
-
 find-requires : tie.Need-find-requires
 find-requires c κs = search needs
 
+slice-aggregate-find : tie.Need-slice-aggregate-find
+slice-aggregate-find c = sym (length-take-le _ _ (c .before .find .ensures .high))
+
+find-requires-2 : tie.Need-find-requires-2
+find-requires-2 c κs = search needs
+
 returns : tie.Need-returns
-returns c = let e = c .before .before .colon in kind-ends _ (e .result) _ (e .ensures) (c .find .ensures)
+returns c = let d = c .before .before .find in kind-ends _ (d .result) _ (d .ensures) (c .find2 .ensures)
 
 pub kind-end-spec : {M : Type 1} → statement M
-kind-end-spec = tie.close (tie.spec colon-requires slice-aggregate-find find-requires returns)
+kind-end-spec = tie.close (tie.spec find-requires slice-aggregate-find find-requires-2 returns)

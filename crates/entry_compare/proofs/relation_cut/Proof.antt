@@ -2,7 +2,7 @@ use borrow.Author.Needs.{needs}
 use mathlib.Core.Path.{ap₂, _∙_}
 use borrow.Author.Tests.{not-true, not-false}
 use Rattle.wire.specs.Bytes.{same}
-use Rattle.entry_id.specs.Canonical.{mixedRest, sameText, mixedText}
+use Rattle.entry_id.specs.Canonical.{mixedSpelled, sameText, mixedText}
 use Rattle.entry_id.specs.Scan.{part}
 use Rattle.entry_compare.proofs.KindLaws.{kinds-differ, behind-kinds}
 use Rattle.entry_compare.proofs.relation_cut.Statement.{statement}
@@ -16,7 +16,7 @@ unfolding sameText mixedText
 returns c =
     let k = c .before .before .cut-kinds .ensures in
     let n = not-true _ (c .if1 .taken) in
-    ap₂ (λ x y. record { same = x; mixed = y }) (kinds-differ _ _ _ _ _ k same n) (kinds-differ _ _ _ _ _ k mixedRest n)
+    ap₂ (λ x y. record { same = x; mixed = y }) (kinds-differ _ _ _ _ _ k same n) (kinds-differ _ _ _ _ _ k mixedSpelled n)
 
 sub-x : tie.Need-sub-x
 sub-x c = search needs
@@ -47,7 +47,7 @@ unfolding sameText mixedText part
 returns-2 c =
     let k = c .before .before .before .before .before .before .cut-kinds .ensures in
     let y = not-false _ (c .before .before .before .before .if1 .left) in
-    c .relation-from .ensures ∙ ap₂ (λ x y. record { same = x; mixed = y }) (behind-kinds _ _ _ _ _ k same y) (behind-kinds _ _ _ _ _ k mixedRest y)
+    c .relation-from .ensures ∙ ap₂ (λ x y. record { same = x; mixed = y }) (behind-kinds _ _ _ _ _ k same y) (behind-kinds _ _ _ _ _ k mixedSpelled y)
 
 pub relation-cut-spec : {M : Type 1} → statement M
 relation-cut-spec =
