@@ -26,15 +26,12 @@ host = bytes "host-x86_64-unknown-linux-gnu-"
 abbrev pub gfx906 : List ℕ
 gfx906 = bytes "hip-amdgcn-amd-amdhsa-gfx906"
 
--- one target with both spellings of a kind, and with another kind
-abbrev pub hip : List ℕ
-hip = bytes "hip-a-b-c--gfx906"
-
+-- the same target with the other spelling of its kind, and with another kind
 abbrev pub hipv4 : List ℕ
-hipv4 = bytes "hipv4-a-b-c--gfx906"
+hipv4 = bytes "hipv4-amdgcn-amd-amdhsa-gfx906"
 
 abbrev pub openmp : List ℕ
-openmp = bytes "openmp-a-b-c--gfx906"
+openmp = bytes "openmp-amdgcn-amd-amdhsa-gfx906"
 
 -- with the feature xnack, on and off
 abbrev pub on : List ℕ → List ℕ
@@ -97,20 +94,20 @@ pub record Examples : Type 0 where
   -- "The two `gfx906` spellings of the fourth piece together: TWICE."
   pub two-spellings : check idRules (twoAt 169 (bytes "hip-amdgcn-amd-amdhsa-gfx906:xnack+:sramecc-") (bytes "hip-amdgcn-amd-amdhsa--gfx906:sramecc-:xnack+")) ≡ record { number = 7; place = 1; count = 0 }
   -- "a bundle with both spellings of one entry is refused by 7": at the second, whichever comes first
-  pub kinds-twice : check idRules (two (on hip) (on hipv4)) ≡ record { number = 7; place = 1; count = 0 }
-  pub kinds-twice-turned : check idRules (two (on hipv4) (on hip)) ≡ record { number = 7; place = 1; count = 0 }
+  pub kinds-twice : check idRules (two gfx906 hipv4) ≡ record { number = 7; place = 1; count = 0 }
+  pub kinds-twice-turned : check idRules (two hipv4 gfx906) ≡ record { number = 7; place = 1; count = 0 }
   -- TWICE and MIXED "treat them as equal": other feature names across the spellings are MIXED, the same names with other signs are neither
-  pub kinds-mixed : check idRules (two hip (on hipv4)) ≡ record { number = 8; place = 1; count = 0 }
-  pub kinds-mixed-turned : check idRules (two (on hipv4) hip) ≡ record { number = 8; place = 1; count = 0 }
-  pub kinds-signs : check idRules (two (on hip) (off hipv4)) ≡ record { number = 0; place = 0; count = 2 }
+  pub kinds-mixed : check idRules (two gfx906 (on hipv4)) ≡ record { number = 8; place = 1; count = 0 }
+  pub kinds-mixed-turned : check idRules (two (on hipv4) gfx906) ≡ record { number = 8; place = 1; count = 0 }
+  pub kinds-signs : check idRules (two (on gfx906) (off hipv4)) ≡ record { number = 0; place = 0; count = 2 }
   -- "compatibility treats them as equal": a device name with either spelling picks an entry with the other
-  pub picks-hip : pick idRules (two (on hip) (off hipv4)) (on hipv4) ≡ record { number = 0; place = 0; index = 0; position = 130; size = 0 }
-  pub picks-hipv4 : pick idRules (one hipv4) hip ≡ record { number = 0; place = 0; index = 0; position = 75; size = 5 }
+  pub picks-hip : pick idRules (two (on gfx906) (off hipv4)) (on hipv4) ≡ record { number = 0; place = 0; index = 0; position = 152; size = 0 }
+  pub picks-hipv4 : pick idRules (two openmp hipv4) gfx906 ≡ record { number = 0; place = 0; index = 1; position = 141; size = 0 }
   -- any other two kinds differ
-  pub kinds-apart : check idRules (two hip (on openmp)) ≡ record { number = 0; place = 0; count = 2 }
-  pub picks-none : pick idRules (one hip) openmp ≡ record { number = 10; place = 0; index = 0; position = 0; size = 0 }
+  pub kinds-apart : check idRules (two openmp hipv4) ≡ record { number = 0; place = 0; count = 2 }
+  pub picks-none : pick idRules (one openmp) hipv4 ≡ record { number = 10; place = 0; index = 0; position = 0; size = 0 }
   -- "demand 3 still counts the two spellings as different entries": bundles that differ in the spelling alone have different normal forms
-  pub normals-apart : same (normal idRules (one hip)) (normal idRules (one hipv4)) ≡ false
+  pub normals-apart : same (normal idRules (one gfx906)) (normal idRules (one hipv4)) ≡ false
   -- "Offset equal to the length with size 0: accepted. Size 1 there: RANGE."
   pub at-end : check idRules (oneHost 0 []) ≡ record { number = 0; place = 0; count = 1 }
   pub past-end : check idRules (oneHost 1 []) ≡ record { number = 6; place = 0; count = 0 }

@@ -1,4 +1,4 @@
-//! The examples of RULES B, B.1 to B.13, and of `hip` beside `hipv4`, as cases. `model/examples.rs` says what comes of them.
+//! The examples of RULES B, B.1 to B.13 and B.16, as cases. `model/examples.rs` says what comes of them.
 
 use super::{binaries, bundles, Room};
 use crate::model::binary_writer::{write_binary, Content, PairParts};
@@ -68,10 +68,11 @@ pub fn bundle_cases() -> Vec<bundles::Case> {
         case(with_field(bundle(&[(PLAIN, b"123")]), 48, u64::MAX), PLAIN),
         case(bundle(&[(NO_PROCESSOR, b"")]), PLAIN),
         case(bundle(&[(PLAIN, b"")]), NO_PROCESSOR),
-        case(bundle(&[(HOST, b""), (PLAIN, b""), (PLAIN_V4, b"")]), PLAIN),
-        case(bundle(&[(HOST, b""), (PLAIN_V4, b""), (PLAIN, b"")]), PLAIN),
-        case(bundle(&[(XNACK_ON, b""), (PLAIN_V4, b"")]), PLAIN),
-        case(bundle(&[(XNACK_ON, b"on"), (XNACK_OFF_V4, b"off")]), XNACK_OFF),
+        case(bundle(&[(PLAIN, b""), (PLAIN_V4, b"")]), PLAIN),
+        case(bundle(&[(PLAIN_V4, b""), (PLAIN, b"")]), PLAIN),
+        case(bundle(&[(PLAIN, b""), (XNACK_ON_V4, b"")]), PLAIN),
+        case(bundle(&[(XNACK_ON_V4, b""), (PLAIN, b"")]), PLAIN),
+        case(bundle(&[(XNACK_ON, b"on"), (XNACK_OFF_V4, b"off")]), XNACK_ON_V4),
         case(bundle(&[(XNACK_ON_V4, b"on"), (XNACK_OFF, b"off")]), XNACK_OFF_V4),
         case(bundle(&[(XNACK_ON, b"on")]), XNACK_ON_V4),
         case(bundle(&[(XNACK_ON_V4, b"on")]), XNACK_ON),
