@@ -121,6 +121,10 @@ expect 0 "$heading
     1       4096       3088  hipv4-amdgcn-amd-amdhsa--gfx90a:sramecc+:xnack-
     2       8192       2048  hipv4-amdgcn-amd-amdhsa--gfx906:sramecc-:xnack+
     3      12288       2248  hipv4-amdgcn-amd-amdhsa--gfx1030" '' list "$samples/bundles/aligned.bundle"
+expect 0 "$heading
+    0       4096          0  host-x86_64-unknown-linux--
+    1       4096       3288  hipv4-amdgcn-amd-amdhsa--gfx1030
+    2       8192       3048  hipv4-amdgcn-amd-amdhsa--gfx906:sramecc-:xnack+" '' list "$samples/bundles/driver.bundle"
 bundle 7 host-a-b-c- host-a-b-d-- host-a-b-e-f >three
 truncate -s 1073741824 three
 end=$((32 + 3 * 24 + 11 + 12 + 12))
@@ -356,7 +360,7 @@ expect 0 '{"file":"b\\\\xff\\"\\\\\\u000a","number":0,*}' '' check --json "$name
 rm ./*
 
 # Normal forms: accepted, their own normal form, and with the same images.
-for sample in three-cards aligned kinds host-only five-fields; do
+for sample in three-cards aligned driver kinds host-only five-fields; do
   expect 0 'written, length *' '' normalise "$samples/bundles/$sample.bundle" -o normal
   expect 0 'accepted, entries [1-8]' '' check normal
   expect 0 "written, length $(stat -c %s normal)" '' normalize normal -o again
@@ -442,6 +446,10 @@ expect 0 'entry 7, offset 14922, size 2248' '' pick "$cards" "${gfx/hip/hipv4}10
 same image "$samples/images/gfx1030.o"
 expect 0 'entry 3, offset 12288, size 2248' '' pick "$samples/bundles/aligned.bundle" "${gfx}1030" -o image
 same image "$samples/images/gfx1030.o"
+for name in "${gfx}1030" "${gfx/hip/hipv4}1030"; do
+  expect 0 'entry 1, offset 4096, size 3288' '' pick "$samples/bundles/driver.bundle" "$name" -o image
+  same image "$samples/images/gfx1030.co"
+done
 expect 0 'entry 2, *' '' pick "$samples/bundles/kinds.bundle" "${gfx/hip/hipv4}906"
 expect 0 'entry 1, *' '' pick "$samples/bundles/kinds.bundle" "${gfx/hip/openmp}906"
 rm ./*

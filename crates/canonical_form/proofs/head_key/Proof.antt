@@ -11,23 +11,11 @@ use borrow.Author.Needs.{needs}
 use Rattle.canonical_form.proofs.head_key.Statement.{statement}
 use Rattle.canonical_form.proofs.head_key.Tie as tie
 
-kind-length-requires : tie.Need-kind-length-requires
-kind-length-requires c κs = search needs
-
 sub-head-number : tie.Need-sub-head-number
 sub-head-number c = omega (arith, c .before .kind-length .ensures, kind-short _ (c .before .before .before .pre) .1)
 
 part-head-number-start : tie.Need-part-head-number-start
 part-head-number-start c = omega (arith, c .before .kind-length .ensures, kind-short _ (c .before .before .before .pre) .1)
-
-part-head-number-end : tie.Need-part-head-number-end
-part-head-number-end c = search needs
-
-head-number-requires : tie.Need-head-number-requires
-head-number-requires c κs = search needs
-
-wrapping-add-u64-requires : tie.Need-wrapping-add-u64-requires
-wrapping-add-u64-requires c κs = search needs
 
 returns : tie.Need-returns
 unfolding keyOf afterKind part
@@ -44,10 +32,10 @@ pub head-key-spec : {M : Type 1} → statement M
 head-key-spec =
     tie.close
     (tie.spec
-    kind-length-requires
+    (λ c κs. search needs)
     sub-head-number
     part-head-number-start
-    part-head-number-end
-    head-number-requires
-    wrapping-add-u64-requires
+    (λ c. search needs)
+    (λ c κs. search needs)
+    (λ c κs. search needs)
     returns)

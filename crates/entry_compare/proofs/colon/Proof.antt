@@ -6,21 +6,6 @@ use Rattle.entry_id.proofs.RunLaws.{part-rest, run-behind}
 use Rattle.entry_compare.proofs.colon.Statement.{statement}
 use Rattle.entry_compare.proofs.colon.Tie as tie
 
-sub-find : tie.Need-sub-find
-sub-find c = search needs
-
-part-find-start : tie.Need-part-find-start
-part-find-start c = search needs
-
-part-find-end : tie.Need-part-find-end
-part-find-end c = search needs
-
-find-requires : tie.Need-find-requires
-find-requires c κs = search needs
-
-add-result : tie.Need-add-result
-add-result c = search needs
-
 returns : tie.Need-returns
 unfolding part
 returns c =
@@ -30,4 +15,4 @@ returns c =
 
 pub colon-spec : {M : Type 1} → statement M
 colon-spec =
-    tie.close (tie.spec sub-find part-find-start part-find-end find-requires add-result returns)
+    tie.close (tie.spec (λ c. search needs) (λ c. search needs) (λ c. search needs) (λ c κs. search needs) (λ c. search needs) returns)

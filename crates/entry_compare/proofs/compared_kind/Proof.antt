@@ -6,12 +6,6 @@ use Rattle.entry_compare.proofs.KindLaws.{is-four, as-spelled}
 use Rattle.entry_compare.proofs.compared_kind.Statement.{statement}
 use Rattle.entry_compare.proofs.compared_kind.Tie as tie
 
-slice-aggregate-same-bytes : tie.Need-slice-aggregate-same-bytes
-slice-aggregate-same-bytes c = search needs
-
-same-bytes-requires : tie.Need-same-bytes-requires
-same-bytes-requires c κs = search needs
-
 slice-aggregate-result : tie.Need-slice-aggregate-result
 slice-aggregate-result c = rw (is-four _ (sym (c .before .before .same-bytes .ensures) ∙ c .before .if1 .taken))
 
@@ -26,8 +20,8 @@ pub compared-kind-spec : {M : Type 1} → statement M
 compared-kind-spec =
     tie.close
     (tie.spec
-    slice-aggregate-same-bytes
-    same-bytes-requires
+    (λ c. search needs)
+    (λ c κs. search needs)
     slice-aggregate-result
     returns
     returns-2)

@@ -5,17 +5,8 @@ use Rattle.entry_compare.proofs.KindLaws.{compatible-head, uncut}
 use Rattle.entry_compare.proofs.compatible.Statement.{statement}
 use Rattle.entry_compare.proofs.compatible.Tie as tie
 
-common-prefix-requires : tie.Need-common-prefix-requires
-common-prefix-requires c κs = search needs
-
-compatible-cut-requires : tie.Need-compatible-cut-requires
-compatible-cut-requires c κs = search needs
-
 returns : tie.Need-returns
 returns c = c .compatible-cut .ensures
-
-compatible-from-requires : tie.Need-compatible-from-requires
-compatible-from-requires c κs = search needs
 
 returns-2 : tie.Need-returns-2
 unfolding compatibleText
@@ -25,8 +16,8 @@ pub compatible-spec : {M : Type 1} → statement M
 compatible-spec =
     tie.close
     (tie.spec
-    common-prefix-requires
-    compatible-cut-requires
+    (λ c κs. search needs)
+    (λ c κs. search needs)
     returns
-    compatible-from-requires
+    (λ c κs. search needs)
     returns-2)

@@ -8,20 +8,8 @@ use Rattle.entry_compare.proofs.compatible_from.Tie as tie
 returns : tie.Need-returns
 returns c = compatible-self _ _ (sym (whole-same _ _ _ (c .before .before .before .pre)) ∙ c .if1 .taken)
 
-meet-requires : tie.Need-meet-requires
-meet-requires c κs = search needs
-
 returns-2 : tie.Need-returns-2
 returns-2 c = compatible-no _ _ (c .before .meet .result) (c .before .meet .ensures) (c .if2 .taken)
-
-sub-all-in : tie.Need-sub-all-in
-sub-all-in c = search needs
-
-sub-all-in-2 : tie.Need-sub-all-in-2
-sub-all-in-2 c = search needs
-
-all-in-requires : tie.Need-all-in-requires
-all-in-requires c κs = search needs
 
 returns-3 : tie.Need-returns-3
 returns-3 c = let m = c .before .before .meet in
@@ -32,9 +20,9 @@ compatible-from-spec =
     tie.close
     (tie.spec
     returns
-    meet-requires
+    (λ c κs. search needs)
     returns-2
-    sub-all-in
-    sub-all-in-2
-    all-in-requires
+    (λ c. search needs)
+    (λ c. search needs)
+    (λ c κs. search needs)
     returns-3)

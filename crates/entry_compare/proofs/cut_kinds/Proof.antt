@@ -6,26 +6,11 @@ use Rattle.entry_id.specs.Compare.{comparedKind}
 use Rattle.entry_compare.proofs.cut_kinds.Statement.{statement}
 use Rattle.entry_compare.proofs.cut_kinds.Tie as tie
 
-kind-end-requires : tie.Need-kind-end-requires
-kind-end-requires c κs = search needs
-
-kind-end-requires-2 : tie.Need-kind-end-requires-2
-kind-end-requires-2 c κs = search needs
-
 slice-aggregate-compared-kind : tie.Need-slice-aggregate-compared-kind
 slice-aggregate-compared-kind c = sym (length-take-le _ _ (c .before .before .kind-end .ensures .within))
 
-compared-kind-requires : tie.Need-compared-kind-requires
-compared-kind-requires c κs = search needs
-
 slice-aggregate-compared-kind-2 : tie.Need-slice-aggregate-compared-kind-2
 slice-aggregate-compared-kind-2 c = sym (length-take-le _ _ (c .before .before .before .kind-end2 .ensures .within))
-
-compared-kind-requires-2 : tie.Need-compared-kind-requires-2
-compared-kind-requires-2 c κs = search needs
-
-same-bytes-requires : tie.Need-same-bytes-requires
-same-bytes-requires c κs = search needs
 
 returns : tie.Need-returns
 returns c =
@@ -43,11 +28,11 @@ pub cut-kinds-spec : {M : Type 1} → statement M
 cut-kinds-spec =
     tie.close
     (tie.spec
-    kind-end-requires
-    kind-end-requires-2
+    (λ c κs. search needs)
+    (λ c κs. search needs)
     slice-aggregate-compared-kind
-    compared-kind-requires
+    (λ c κs. search needs)
     slice-aggregate-compared-kind-2
-    compared-kind-requires-2
-    same-bytes-requires
+    (λ c κs. search needs)
+    (λ c κs. search needs)
     returns)

@@ -15,16 +15,10 @@ returns c =
     let (x, y) = and-both _ _ (c .if1 .taken) in
     ap₂ (λ x y. record { same = x; mixed = y }) (sym (c .if1 .taken) ∙ whole-same _ _ _ p) (mixed-alike _ _ (sym (whole-alike _ _ _ p (eqb-true _ _ x) (eqb-true _ _ y))))
 
-alike-requires : tie.Need-alike-requires
-alike-requires c κs = search needs
-
 returns-2 : tie.Need-returns-2
 returns-2 c =
     let p = c .before .before .before .before .before .pre in
     ap₂ (λ x y. record { same = x; mixed = y }) (sym (c .before .before .if1 .left) ∙ whole-same _ _ _ p) (mixed-alike _ _ (sym (c .before .alike .ensures) ∙ c .if2 .taken))
-
-meet-requires : tie.Need-meet-requires
-meet-requires c κs = search needs
 
 returns-3 : tie.Need-returns-3
 returns-3 c =
@@ -38,4 +32,4 @@ returns-3 c =
 pub relation-from-spec : {M : Type 1} → statement M
 relation-from-spec =
     tie.close
-    (tie.spec returns alike-requires returns-2 meet-requires returns-3)
+    (tie.spec returns (λ c κs. search needs) returns-2 (λ c κs. search needs) returns-3)

@@ -6,17 +6,8 @@ use Rattle.entry_compare.proofs.KindLaws.{same-head, mixed-head, uncut}
 use Rattle.entry_compare.proofs.relation_of.Statement.{statement}
 use Rattle.entry_compare.proofs.relation_of.Tie as tie
 
-common-prefix-requires : tie.Need-common-prefix-requires
-common-prefix-requires c κs = search needs
-
-relation-cut-requires : tie.Need-relation-cut-requires
-relation-cut-requires c κs = search needs
-
 returns : tie.Need-returns
 returns c = c .relation-cut .ensures
-
-relation-from-requires : tie.Need-relation-from-requires
-relation-from-requires c κs = search needs
 
 returns-2 : tie.Need-returns-2
 unfolding sameText mixedText
@@ -29,8 +20,8 @@ pub relation-of-spec : {M : Type 1} → statement M
 relation-of-spec =
     tie.close
     (tie.spec
-    common-prefix-requires
-    relation-cut-requires
+    (λ c κs. search needs)
+    (λ c κs. search needs)
     returns
-    relation-from-requires
+    (λ c κs. search needs)
     returns-2)
