@@ -9,11 +9,16 @@ enum { ENTRIES = 64, ID_LIMIT = 256, FEATURES = 8, SLOTS = 128 };
 static const uint64_t limit = 1073741824;
 static const uint8_t magic[24] = "__CLANG_OFFLOAD_BUNDLE__";
 
-/* An entry ID in canonical form: the target (six fields) and after it the features. */
+/* Kinds as they are compared: hip and hipv4 are one. */
+enum kind { NO_KIND, HOST, HIP, OPENMP };
+
+/* An entry ID in canonical form: the target (six fields) and after it the features. The hashes are of the kind and of the text after it. */
 struct id {
     const uint8_t *text;
     uint32_t length;
     uint32_t target;
+    enum kind kind;
+    uint32_t kind_length;
     uint64_t hash;
     uint64_t target_hash;
 };
@@ -50,6 +55,7 @@ static const uint8_t classes[256] = {
 
 /* Where an ID's parts lie: dashes[k] ends field k, `target` ends the last one. */
 struct parts {
+    enum kind kind;
     uint32_t fields;
     uint32_t dashes[6];
     uint32_t target;
@@ -60,18 +66,18 @@ struct parts {
     int sorted;
 };
 
-static int is_kind(const uint8_t *kind, uint32_t length) {
+static enum kind read_kind(const uint8_t *kind, uint32_t length) {
     switch (length) {
     case 3:
-        return memcmp(kind, "hip", 3) == 0;
+        return memcmp(kind, "hip", 3) == 0 ? HIP : NO_KIND;
     case 4:
-        return memcmp(kind, "host", 4) == 0;
+        return memcmp(kind, "host", 4) == 0 ? HOST : NO_KIND;
     case 5:
-        return memcmp(kind, "hipv4", 5) == 0;
+        return memcmp(kind, "hipv4", 5) == 0 ? HIP : NO_KIND;
     case 6:
-        return memcmp(kind, "openmp", 6) == 0;
+        return memcmp(kind, "openmp", 6) == 0 ? OPENMP : NO_KIND;
     }
-    return 0;
+    return NO_KIND;
 }
 
 /* The fields: 4 to 6, the first a kind and the next three not empty. */
@@ -89,7 +95,8 @@ static int read_target(const uint8_t *id, uint32_t length, struct parts *parts) 
     parts->target = at;
     parts->dashes[fields++] = at;
     parts->fields = fields;
-    if (fields < 4 || !is_kind(id, parts->dashes[0]))
+    parts->kind = read_kind(id, parts->dashes[0]);
+    if (fields < 4 || parts->kind == NO_KIND)
         return 0;
     return parts->dashes[1] > parts->dashes[0] + 1 && parts->dashes[2] > parts->dashes[1] + 1 && parts->dashes[3] > parts->dashes[2] + 1;
 }
@@ -160,7 +167,7 @@ static uint64_t mix(uint64_t hash, uint64_t word) {
     return hash ^ hash >> 32;
 }
 
-/* Hashes the bytes from `at` on. The last word may hold earlier bytes too: a canonical form has more than 8. */
+/* Hashes the bytes from `at` on. The last word may hold earlier bytes too, but none of the kind: 8 or more follow it. */
 static uint64_t hash_from(uint64_t hash, const uint8_t *text, uint32_t at, uint32_t length) {
     for (; at + 8 < length; at += 8)
         hash = mix(hash, word(text + at));
@@ -198,7 +205,9 @@ static int read_id(const uint8_t *id, uint32_t length, uint8_t *scratch, struct 
     }
     read->length = length + dashes;
     read->target = parts.target + dashes;
-    read->target_hash = hash_from(0, read->text, 0, read->target);
+    read->kind = parts.kind;
+    read->kind_length = parts.dashes[0];
+    read->target_hash = hash_from(parts.kind, read->text, read->kind_length, read->target);
     read->hash = hash_from(read->target_hash, read->text, read->target, read->length);
     return 1;
 }
@@ -246,25 +255,32 @@ static struct refusal read_entries(struct bundle *bundle, size_t end, size_t len
     return (struct refusal){OK, 0};
 }
 
+/* Equal in the kind as it is compared, and in the text after it up to these ends. */
+static int same_up_to(const struct id *a, uint32_t a_end, const struct id *b, uint32_t b_end) {
+    uint32_t length = a_end - a->kind_length;
+    return a->kind == b->kind && length == b_end - b->kind_length && memcmp(a->text + a->kind_length, b->text + b->kind_length, length) == 0;
+}
+
 static int same_target(const struct id *a, const struct id *b) {
-    return a->target_hash == b->target_hash && a->target == b->target && memcmp(a->text, b->text, a->target) == 0;
+    return a->target_hash == b->target_hash && same_up_to(a, a->target, b, b->target);
 }
 
 static int same_meaning(const struct id *a, const struct id *b) {
-    return a->hash == b->hash && a->length == b->length && memcmp(a->text, b->text, a->length) == 0;
+    return a->hash == b->hash && same_up_to(a, a->length, b, b->length);
 }
 
 static int is_sign(uint8_t byte) {
     return byte == '+' || byte == '-';
 }
 
-/* Of IDs with the same target: equal but for signs. */
+/* Of IDs with the same target: the features are equal but for signs. */
 static int same_names(const struct id *a, const struct id *b) {
-    uint32_t k;
-    if (a->length != b->length)
+    const uint8_t *one = a->text + a->target, *other = b->text + b->target;
+    uint32_t k, length = a->length - a->target;
+    if (length != b->length - b->target)
         return 0;
-    for (k = a->target; k < a->length; k++)
-        if (a->text[k] != b->text[k] && !(is_sign(a->text[k]) && is_sign(b->text[k])))
+    for (k = 0; k < length; k++)
+        if (one[k] != other[k] && !(is_sign(one[k]) && is_sign(other[k])))
             return 0;
     return 1;
 }

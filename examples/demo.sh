@@ -38,6 +38,7 @@ hip-amdgcn-amd-amdhsa--gfx906
 hip-amdgcn-amd-amdhsa--gfx90a:sramecc+:xnack-
 hip-amdgcn-amd-amdhsa--gfx90a:sramecc-:xnack-
 hip-amdgcn-amd-amdhsa--gfx1030
+hipv4-amdgcn-amd-amdhsa--gfx1030
 hip-amdgcn-amd-amdhsa--gfx1030:cumode+
 openmp-amdgcn-amd-amdhsa--gfx1030
 gfx1030

@@ -58,8 +58,11 @@ extern "C" {
  *
  * An entry is compatible with a device name when kind, arch, vendor, system, environment and processor are equal, and
  * every feature that the entry states is stated by the device name with the same sign. So an entry that leaves out a
- * feature is for both settings, while a device name should state every feature of its card. Kinds are equal or not:
- * clang's driver writes hipv4 today, and a device name with hip then gets OFFLOAD_NONE. */
+ * feature is for both settings, while a device name should state every feature of its card.
+ *
+ * For this, for OFFLOAD_TWICE and for OFFLOAD_MIXED hip and hipv4 are one kind (clang's driver writes hipv4 today): a
+ * device name with either gets an entry with either, and a bundle that has one entry in both spellings is refused. Any
+ * other two kinds differ. A canonical form, and so a normal form, keeps the kind as it is spelled. */
 
 /* The numbers that calls return, in the order in which they are tried: the first that applies is returned. */
 enum offload_number {
@@ -181,9 +184,10 @@ OFFLOAD_INLINE struct offload_pick_answer offload_pick(const uint8_t *bundle, si
 }
 
 /* Write a bundle's normal form: the entries sorted by canonical ID, the images packed directly after the table. Two
- * bundles have the same normal form, byte for byte, exactly when they hold the same entries. A normal form is accepted,
- * is its own normal form, and every pick from it gives the image or the refusal that the bundle gives. It keeps no
- * alignment of images: copy an image to aligned memory where that is needed.
+ * bundles have the same normal form, byte for byte, exactly when they hold the same entries; here the kind counts as it
+ * is spelled, so that hip and hipv4 are two. A normal form is accepted, is its own normal form, and every pick from it
+ * gives the image or the refusal that the bundle gives. It keeps no alignment of images: copy an image to aligned
+ * memory where that is needed.
  * number: OFFLOAD_OK, 1 to 8 as the check returns them, OFFLOAD_BIG or OFFLOAD_ROOM.
  * place: as the check returns it, 0 for OFFLOAD_BIG and OFFLOAD_ROOM.
  * length: how many bytes are written at the start of out, at least 32; what lies beyond is unchanged.

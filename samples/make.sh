@@ -1,5 +1,5 @@
 #!/usr/bin/env bash
-# Makes images/, bundles/ and binaries/ again, byte for byte, with Debian's clang-19 and clang-tools-19 (1:19.1.7-3~deb12u1), and
+# Makes images/, bundles/ and binaries/ again, byte for byte, with Debian's clang-19, clang-tools-19 and lld-19 (1:19.1.7-3~deb12u1), and
 # bundles/five-fields.bundle with Debian's clang-tools-14 (1:14.0.6-12). The files are committed: no test runs this.
 set -eu
 cd "$(dirname "$0")"
@@ -23,6 +23,14 @@ clang-19 --target=nvptx64-nvidia-cuda -march=sm_80 -nogpulib -O2 -S source/scale
 clang-19 --target=amdgcn-amd-amdhsa -mcpu=gfx906 -nogpulib -O2 -c -emit-llvm source/add.cl -o images/gfx906.bc
 clang-19 --target=x86_64-unknown-linux-gnu -O2 -c -emit-llvm source/scale.c -o images/host.bc
 
+# What clang's driver makes of a HIP source: driver OUTPUT OPTION... Without a CUID, which depends on the folder.
+driver() {
+  clang-19 -x hip --offload-device-only -nogpuinc -nogpulib -fuse-cuid=none -O2 source/add.hip -o "$@"
+}
+driver images/gfx906-sramecc-xnack+.co --no-gpu-bundle-output --offload-arch=gfx906:sramecc-:xnack+
+driver images/gfx1030.co --no-gpu-bundle-output --offload-arch=gfx1030
+chmod -x images/*.co
+
 # Bundles.
 clang-offload-bundler-19 -type=o \
   -targets=host-x86_64-unknown-linux-gnu,hip-amdgcn-amd-amdhsa--gfx906:sramecc+:xnack+,hip-amdgcn-amd-amdhsa--gfx906:sramecc+:xnack-,hip-amdgcn-amd-amdhsa--gfx906:sramecc-:xnack+,hip-amdgcn-amd-amdhsa--gfx906:sramecc-:xnack-,hip-amdgcn-amd-amdhsa--gfx90a:sramecc+:xnack+,hip-amdgcn-amd-amdhsa--gfx90a:sramecc+:xnack-,hip-amdgcn-amd-amdhsa--gfx1030 \
@@ -43,6 +51,10 @@ clang-offload-bundler-19 -type=o -bundle-align=4096 \
   -input=images/gfx906-sramecc-xnack+.o \
   -input=images/gfx1030.o \
   -output=bundles/aligned.bundle
+
+# The driver calls the bundler with `-type=o -bundle-align=4096`, `-input=/dev/null` for the host, and
+# `-targets=host-x86_64-unknown-linux,hipv4-amdgcn-amd-amdhsa--gfx1030,hipv4-amdgcn-amd-amdhsa--gfx906:sramecc-:xnack+`.
+driver bundles/driver.bundle --offload-arch=gfx906:sramecc-:xnack+ --offload-arch=gfx1030
 
 clang-offload-bundler-19 -type=bc \
   -targets=host-x86_64-unknown-linux-gnu,openmp-amdgcn-amd-amdhsa--gfx906,hip-amdgcn-amd-amdhsa--gfx906,openmp-nvptx64-nvidia-cuda--sm_70,openmp-nvptx64-nvidia-cuda--sm_80 \

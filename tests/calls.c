@@ -193,6 +193,36 @@ static void two_entries(void) {
     check("other features", bundle, make_two(bundle, gfx906, "ONE..", card, "TWO.."), OFFLOAD_MIXED, 1, 0);
 }
 
+/* One entry of this ID. The length. */
+static size_t make_one(uint8_t *out, const char *id) {
+    size_t end = make_table(out, 1, &id, IMAGE, 0);
+    memcpy(out + end, "IMAGE", IMAGE);
+    return end + IMAGE;
+}
+
+/* An entry of the one kind, picked by the name with the other; its normal form keeps the kind. */
+static void across(const char *id, const char *other) {
+    static uint8_t bundle[SPACE];
+    size_t length = make_one(bundle, id);
+    pick("the kind as spelled", bundle, length, id, OFFLOAD_OK, 0, 0, length - IMAGE, IMAGE);
+    pick("the other spelling", bundle, length, other, OFFLOAD_OK, 0, 0, length - IMAGE, IMAGE);
+    pick("another kind", bundle, length, "openmp-a-b-c--gfx906:xnack-", OFFLOAD_NONE, 0, 0, 0, 0);
+    normalise("the kind is kept", bundle, length, length, OFFLOAD_OK, 0, bundle, length);
+}
+
+/* hip and hipv4 are one kind; hip and openmp are two. */
+static void kinds(void) {
+    static uint8_t bundle[SPACE];
+    const char *hip = "hip-a-b-c--gfx906:xnack-", *hipv4 = "hipv4-a-b-c--gfx906:xnack-";
+    across(hip, hipv4);
+    across(hipv4, hip);
+    check("both kinds", bundle, make_two(bundle, hip, "ONE..", hipv4, "TWO.."), OFFLOAD_TWICE, 1, 0);
+    check("both, the other way", bundle, make_two(bundle, hipv4, "ONE..", hip, "TWO.."), OFFLOAD_TWICE, 1, 0);
+    check("other features across", bundle, make_two(bundle, hip, "ONE..", "hipv4-a-b-c--gfx906", "TWO.."), OFFLOAD_MIXED, 1, 0);
+    check("the other sign across", bundle, make_two(bundle, hipv4, "ONE..", "hip-a-b-c--gfx906:xnack+", "TWO.."), OFFLOAD_OK, 0, 2);
+    check("two kinds", bundle, make_two(bundle, hip, "ONE..", "openmp-a-b-c--gfx906", "TWO.."), OFFLOAD_OK, 0, 2);
+}
+
 static void limits(void) {
     static uint8_t bundle[SPACE];
     size_t length = make_two(bundle, host, "HOST.", long_id(OFFLOAD_ID_LIMIT), "CARD."), large = 17 << 20, end;
@@ -249,6 +279,7 @@ static void names(void) {
 
 int main(void) {
     two_entries();
+    kinds();
     limits();
     names();
     return wrong;

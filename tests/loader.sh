@@ -11,7 +11,9 @@ diff <(
   answer "$1" "$samples/three-cards.bundle" hip-amdgcn-amd-amdhsa--gfx906:sramecc+:xnack-
   answer "$1" "$samples/three-cards.bundle" host-x86_64-unknown-linux-gnu
   answer "$1" "$samples/three-cards.bundle" hip-amdgcn-amd-amdhsa--gfx906
-  answer "$1" "$samples/aligned.bundle" hip-amdgcn-amd-amdhsa--gfx1030
+  answer "$1" "$samples/driver.bundle" hip-amdgcn-amd-amdhsa--gfx1030
+  answer "$1" "$samples/driver.bundle" hipv4-amdgcn-amd-amdhsa--gfx906:sramecc-:xnack+
+  answer "$1" "$samples/driver.bundle" openmp-amdgcn-amd-amdhsa--gfx1030
   answer "$1" "$damaged" hip-amdgcn-amd-amdhsa--gfx906:sramecc+:xnack-
   answer "$1" "$damaged" hip-amdgcn-amd-amdhsa--gfx906
   answer "$1" "$samples/three-cards.bundle" gfx906
@@ -23,6 +25,8 @@ diff <(
 0 bytes for the card, the first is 0
 no image for this card
 status 4
+3288 bytes for the card, the first is 127
+3048 bytes for the card, the first is 127
 no image for this card
 status 4
 refused: 6 RANGE
@@ -36,4 +40,4 @@ status 1
 status 3
 status 3
 TEXT
-echo 'loader: 10 answers as expected'
+echo 'loader: 12 answers as expected'

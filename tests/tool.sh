@@ -36,7 +36,7 @@ all="offload [0-9]*.[0-9]*.[0-9]*: bundles of GPU images*offload check FILE*offl
 for word in help -h --help; do
   expect 0 "$all" '' $word
   expect 0 "offload list FILE [[]--json]*for each entry*$statuses" '' $word list
-  expect 0 'Entry IDs*id * 1 to 256 bytes*kind * "hip"*canonical = kind-arch-vendor-system-environment-processor*hipv4.' '' $word id
+  expect 0 'Entry IDs*id * 1 to 256 bytes*kind * "hip"*canonical = kind-arch-vendor-system-environment-processor*hip and hipv4 are one kind*' '' $word id
   expect 2 '' $'offload: no help about me\nTry: offload help' $word me
   expect 2 '' $'offload: unexpected word pick\nTry: offload help' $word check pick
 done
@@ -121,6 +121,10 @@ expect 0 "$heading
     1       4096       3088  hipv4-amdgcn-amd-amdhsa--gfx90a:sramecc+:xnack-
     2       8192       2048  hipv4-amdgcn-amd-amdhsa--gfx906:sramecc-:xnack+
     3      12288       2248  hipv4-amdgcn-amd-amdhsa--gfx1030" '' list "$samples/bundles/aligned.bundle"
+expect 0 "$heading
+    0       4096          0  host-x86_64-unknown-linux--
+    1       4096       3288  hipv4-amdgcn-amd-amdhsa--gfx1030
+    2       8192       3048  hipv4-amdgcn-amd-amdhsa--gfx906:sramecc-:xnack+" '' list "$samples/bundles/driver.bundle"
 bundle 7 host-a-b-c- host-a-b-d-- host-a-b-e-f >three
 truncate -s 1073741824 three
 end=$((32 + 3 * 24 + 11 + 12 + 12))
@@ -157,8 +161,8 @@ holds out
 rm out
 
 # No image for a card is a status of its own, and the message points to explain.
-sentence='No entry fits this device: kind, triple and processor must be equal, and every feature that the entry states must be stated by the device '
-sentence+='with the same sign.'
+sentence='No entry fits this device: kind (hip and hipv4 are one), triple and processor must be equal, and every feature that the entry states must be '
+sentence+='stated by the device with the same sign.'
 advice='offload explain FILE DEVICE says for each entry why it does not fit.'
 none() {
   printf 'offload: %s: 10 NONE, device "%s": %s\n  %s' "$cards" "$1" "$sentence" "$advice"
@@ -356,7 +360,7 @@ expect 0 '{"file":"b\\\\xff\\"\\\\\\u000a","number":0,*}' '' check --json "$name
 rm ./*
 
 # Normal forms: accepted, their own normal form, and with the same images.
-for sample in three-cards aligned kinds host-only five-fields; do
+for sample in three-cards aligned driver kinds host-only five-fields; do
   expect 0 'written, length *' '' normalise "$samples/bundles/$sample.bundle" -o normal
   expect 0 'accepted, entries [1-8]' '' check normal
   expect 0 "written, length $(stat -c %s normal)" '' normalize normal -o again
@@ -384,6 +388,70 @@ expect 1 "$(object big 11 BIG)" '' normalise big -o out --json
 head -c -1 shared >short
 expect 1 '' "$(refusal short '6 RANGE' 'entry 0 "host-a10-b-c" (offset 2336, size 5 in a file of 2340 bytes)')" normalise short -o out
 holds big image normal shared short
+rm ./*
+
+# hip and hipv4 are one kind to check, whichever comes first.
+meaning='An earlier entry has the same meaning (hip and hipv4 are one kind).'
+names='An earlier entry of the same kind (hip and hipv4 are one), triple and processor states other feature names.'
+for kinds in 'hip hipv4' 'hipv4 hip'; do
+  one=${kinds% *}-a-b-c--gfx906
+  two=${kinds#* }-a-b-c--gfx906
+  bundle 0 "$one:xnack+" "$two:xnack+" >twice
+  expect 1 '' "offload: twice: 7 TWICE, entry 1 \"$two:xnack+\": $meaning It is entry 0 \"$one:xnack+\"."$'\n  *.' check twice
+  expect 1 "$(object twice 7 TWICE "\"place\":1,\"id\":\"$two:xnack+\",\"earlier\":0,\"earlier_id\":\"$one:xnack+\",")" '' check twice --json
+  expect 1 '' "$(refusal twice '7 TWICE' "entry 1 \"$two:xnack+\"" "It is entry 0 \"$one:xnack+\".")" pick twice "$one:xnack+"
+  bundle 0 "$one" "$two:xnack+" >mixed
+  expect 1 '' "offload: mixed: 8 MIXED, entry 1 \"$two:xnack+\": $names It is entry 0 \"$one\"."$'\n  *.' check mixed
+  bundle 0 "$one:xnack+" "$two:xnack-" openmp-a-b-c--gfx906 host-a-b-c--gfx906:sramecc+ >settings
+  expect 0 'accepted, entries 4' '' check settings
+  expect 0 'entry 0, *' '' pick settings "$two:xnack+"
+  expect 0 'entry 1, *' '' pick settings "$one:xnack-"
+done
+# And to pick; list and normalise keep the kind as it is spelled.
+device=a-b-c--gfx906:sramecc-:xnack+
+for kind in hip hipv4; do
+  { bundle 5 "$kind-a-b-c-gfx906:xnack+:sramecc-"; printf image; } >$kind
+  expect 0 "$heading"$'\n'"*  $kind-$device  $kind-a-b-c-gfx906:xnack+:sramecc-" '' list $kind
+  expect 0 'written, length *' '' normalise $kind -o $kind.normal
+  expect 0 "$heading"$'\n'"*  $kind-$device" '' list $kind.normal
+  for file in $kind $kind.normal; do
+    for name in hip hipv4; do
+      expect 0 'entry 0, offset *, size 5' '' pick "$file" "$name-$device" -o image
+      is 'the image' "$(<image)" image
+    done
+    expect 4 '' 'offload: *: 10 NONE, *' pick "$file" "openmp-$device"
+  done
+done
+is 'cmp of the normal forms' "$(cmp -s hip.normal hipv4.normal; echo $?)" 1
+# Explain names no kind that is one with the other.
+bundle 0 hip-a-b-c-gfx1:f+ hipv4-a-b-c-gfx1:f- hipv4-a-b-c-gfx2 openmp-a-b-c-gfx1 >all
+for kind in hip hipv4; do
+  tail="    2  hipv4-a-b-c--gfx2     processor: entry gfx2, device gfx1
+    3  openmp-a-b-c--gfx1    kind: entry openmp, device $kind"
+  expect 0 "INDEX  ID                    REASON
+    0  hip-a-b-c--gfx1:f+    fits
+    1  hipv4-a-b-c--gfx1:f-  feature: entry f-, device f+
+$tail" '' explain all $kind-a-b-c-gfx1:f+
+  expect 4 "INDEX  ID                    REASON
+    0  hip-a-b-c--gfx1:f+    feature: entry f+, device (not stated)
+    1  hipv4-a-b-c--gfx1:f-  feature: entry f-, device (not stated)
+$tail" '' explain all $kind-a-b-c-gfx1
+done
+expect 0 '{"index":3,"id":"openmp-a-b-c--gfx1","fits":true}
+{"index":0,"id":"hip-a-b-c--gfx1:f+","fits":false,"reason":"kind","entry":"hip","device":"openmp"}
+{"index":1,"id":"hipv4-a-b-c--gfx1:f-","fits":false,"reason":"kind","entry":"hipv4","device":"openmp"}
+{"index":2,*"entry":"hipv4","device":"openmp"}' '' explain all openmp-a-b-c-gfx1 --json
+# Of real files, too.
+expect 0 'entry 7, offset 14922, size 2248' '' pick "$cards" "${gfx/hip/hipv4}1030" -o image
+same image "$samples/images/gfx1030.o"
+expect 0 'entry 3, offset 12288, size 2248' '' pick "$samples/bundles/aligned.bundle" "${gfx}1030" -o image
+same image "$samples/images/gfx1030.o"
+for name in "${gfx}1030" "${gfx/hip/hipv4}1030"; do
+  expect 0 'entry 1, offset 4096, size 3288' '' pick "$samples/bundles/driver.bundle" "$name" -o image
+  same image "$samples/images/gfx1030.co"
+done
+expect 0 'entry 2, *' '' pick "$samples/bundles/kinds.bundle" "${gfx/hip/hipv4}906"
+expect 0 'entry 1, *' '' pick "$samples/bundles/kinds.bundle" "${gfx/hip/openmp}906"
 rm ./*
 
 # Standard input and standard output.

@@ -50,7 +50,7 @@ const struct command commands[] = {
         .run = normalise,
         .summary = "write a bundle's normal form",
         .help = "Writes the normal form of a bundle to OUT, whole or not at all: entries sorted by canonical ID, images packed after the\n"
-                "table. Bundles that hold the same entries have the same normal form, byte for byte. OUT may be FILE.\n",
+                "table. Bundles that hold the same entries, kinds as spelled, have the same normal form, byte for byte. OUT may be FILE.\n",
     },
     {.name = NULL},
 };

@@ -61,9 +61,13 @@ struct parts parts_of(const struct canonical *form) {
     return parts;
 }
 
-/* Kinds are equal or not: hip and hipv4 are two. */
+/* The kind that a kind is compared as: hip and hipv4 are one kind. */
+static struct bytes compared_kind(struct bytes kind) {
+    return same_bytes(kind, text_bytes("hipv4")) ? text_bytes("hip") : kind;
+}
+
 static int same_kind(struct bytes left, struct bytes right) {
-    return same_bytes(left, right);
+    return same_bytes(compared_kind(left), compared_kind(right));
 }
 
 enum field first_difference(const struct parts *left, const struct parts *right) {

@@ -27,7 +27,7 @@ struct parts {
 
 struct parts parts_of(const struct canonical *form);
 
-/* The first field in which two IDs differ, FIELDS where there is none. */
+/* The first field in which two IDs differ, FIELDS where there is none. hip and hipv4 are one kind. */
 enum field first_difference(const struct parts *left, const struct parts *right);
 
 /* Takes the first feature, its sign as the last byte, off features that are not empty. */

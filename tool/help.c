@@ -43,7 +43,8 @@ static const char id_help[] =
     "\n"
     "hip-amdgcn-amd-amdhsa-gfx906:xnack+:sramecc- has the canonical form hip-amdgcn-amd-amdhsa--gfx906:sramecc-:xnack+.\n"
     "An entry fits a device when kind, triple (arch, vendor, system, environment) and processor are equal, and every feature\n"
-    "that the entry states is stated by the device with the same sign. Kinds are equal or not: clang's driver writes hipv4.\n";
+    "that the entry states is stated by the device with the same sign. hip and hipv4 are one kind, so that either fits the\n"
+    "other, and a bundle with one entry in both spellings is refused; the canonical form keeps the kind as it is spelled.\n";
 
 static void print_meaning(const char *name, const char *meaning) {
     printf("  %-*s  %s\n", NAME, name, meaning);

@@ -51,7 +51,7 @@ fn copy(bundle: &[u8]) -> Vec<Timed> {
 pub fn jobs() {
     let table = Table::new(
         "Check, pick, entry and normalise",
-        "Time of one call. Images of 2 KiB; pick and entry are for the last entry.",
+        "Time of one call. Images of 2 KiB; pick and entry are for the last entry. Three kinds: host, hip and openmp for each of 21 processors.",
         &["Job", "Entries", "Library", "Second program", "Plain C", "Library / plain C"],
     );
     for entries in [1, 16, 64] {
@@ -70,6 +70,9 @@ pub fn jobs() {
         let bundle = sample::bundle(entries, IMAGE);
         row(&table, "normalise", entries, &normalise(&bundle));
     }
+    let (bundle, last) = (sample::three_kinds(IMAGE), sample::three_kinds_id(sample::THREE_KINDS - 1));
+    row(&table, "check of three kinds", sample::THREE_KINDS, &check(&bundle));
+    row(&table, "pick of three kinds", sample::THREE_KINDS, &pick(&bundle, last.as_bytes()));
     table.end();
 }
 

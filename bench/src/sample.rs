@@ -1,24 +1,47 @@
 //! Containers as LLVM's tools write them.
 
-use second::model::bundle::packed;
+use second::model::bundle::{check, packed};
+use second::model::OK;
 use second::samples::BINARIES;
 
 const KINDS: [&str; 3] = ["hip", "hipv4", "openmp"];
-const PROCESSORS: [&str; 6] = ["gfx906", "gfx908", "gfx90a", "gfx940", "gfx941", "gfx942"];
+const PROCESSORS: [&str; 21] = [
+    "gfx906", "gfx908", "gfx90a", "gfx940", "gfx941", "gfx942", "gfx900", "gfx902", "gfx904", "gfx909", "gfx90c",
+    "gfx801", "gfx810", "gfx1010", "gfx1011", "gfx1012", "gfx1013", "gfx1030", "gfx1031", "gfx1032", "gfx1100",
+];
 
-/// The four settings of one processor after another, for one kind after another.
+/// The four settings of one processor after another, for one kind after another: `hipv4`, which is compared as `hip`, has other
+/// processors than `hip`, and `openmp` has those of `hip`.
 pub fn id(entry: usize) -> String {
-    let (kind, processor, setting) = (KINDS[entry / 24], PROCESSORS[entry / 4 % 6], entry % 4);
+    let (kind, processor, setting) = (KINDS[entry / 24], PROCESSORS[entry / 4 % 12], entry % 4);
     let sign = |on: bool| if on { '+' } else { '-' };
     let (sramecc, xnack) = (sign(setting < 2), sign(setting % 2 == 0));
     format!("{kind}-amdgcn-amd-amdhsa--{processor}:sramecc{sramecc}:xnack{xnack}")
 }
 
+/// How many entries `host`, `hip` and `openmp` make for each of 21 processors.
+pub const THREE_KINDS: usize = 63;
+
+/// `host`, `hip` and `openmp` for one processor after another.
+pub fn three_kinds_id(entry: usize) -> String {
+    format!("{}-amdgcn-amd-amdhsa--{}", ["host", "hip", "openmp"][entry % 3], PROCESSORS[entry / 3])
+}
+
 /// A bundle of so many entries, each with an image of this size.
 pub fn bundle(entries: usize, image: usize) -> Vec<u8> {
+    accepted((0..entries).map(id), image)
+}
+
+/// The bundle of all entries of three kinds, each with an image of this size.
+pub fn three_kinds(image: usize) -> Vec<u8> {
+    accepted((0..THREE_KINDS).map(three_kinds_id), image)
+}
+
+fn accepted(ids: impl Iterator<Item = String>, image: usize) -> Vec<u8> {
     let image: Vec<u8> = (0..image).map(|k| (k * 37 % 251) as u8).collect();
-    let ids: Vec<Vec<u8>> = (0..entries).map(|entry| id(entry).into_bytes()).collect();
-    packed(&ids.into_iter().map(|id| (id, image.as_slice())).collect::<Vec<_>>())
+    let bundle = packed(&ids.map(|id| (id.into_bytes(), image.as_slice())).collect::<Vec<_>>());
+    assert_eq!(check(&bundle).number, OK);
+    bundle
 }
 
 /// So many offload binaries: one of LLVM's packager, again and again. It has two string pairs.

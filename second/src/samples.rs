@@ -80,6 +80,16 @@ pub const BUNDLES: &[BundleSample] = &[
         ],
     },
     BundleSample {
+        name: "driver",
+        bytes: sample!("bundles/driver.bundle"),
+        as_written: false,
+        entries: &[
+            ("host-x86_64-unknown-linux--", b""),
+            ("hipv4-amdgcn-amd-amdhsa--gfx1030", sample!("images/gfx1030.co")),
+            ("hipv4-amdgcn-amd-amdhsa--gfx906:sramecc-:xnack+", sample!("images/gfx906-sramecc-xnack+.co")),
+        ],
+    },
+    BundleSample {
         name: "kinds",
         bytes: sample!("bundles/kinds.bundle"),
         as_written: true,
@@ -113,6 +123,7 @@ pub const BUNDLES: &[BundleSample] = &[
 /// Device names that some samples answer with an image and others with NONE, and some that break the rules.
 pub const DEVICES: &[&str] = &[
     "host-x86_64-unknown-linux-gnu",
+    "host-x86_64-unknown-linux",
     "hip-amdgcn-amd-amdhsa-gfx906",
     "hip-amdgcn-amd-amdhsa-gfx906:xnack+:sramecc-",
     "hip-amdgcn-amd-amdhsa--gfx906:sramecc+:xnack-",
@@ -120,6 +131,9 @@ pub const DEVICES: &[&str] = &[
     "hip-amdgcn-amd-amdhsa--gfx90a:sramecc+:xnack-",
     "hip-amdgcn-amd-amdhsa--gfx90a:sramecc-:xnack-",
     "hip-amdgcn-amd-amdhsa--gfx1030:cumode+",
+    "hipv4-amdgcn-amd-amdhsa-gfx906",
+    "hipv4-amdgcn-amd-amdhsa--gfx906:sramecc-:xnack+",
+    "hipv4-amdgcn-amd-amdhsa--gfx906:sramecc-:xnack-",
     "hipv4-amdgcn-amd-amdhsa--gfx90a:sramecc+:xnack-",
     "hipv4-amdgcn-amd-amdhsa--gfx1030",
     "openmp-amdgcn-amd-amdhsa--gfx1030",
@@ -230,6 +244,7 @@ pub const BINARIES: &[BinariesSample] = &[
 #[cfg(test)]
 mod tests {
     use super::*;
+    use crate::gen::ids::{kind_respelled, meaning_of};
     use crate::model::binaries::read_all;
     use crate::model::bundle::{check, entry_at, pick, Checked};
     use crate::model::id::{canonical, meaning};
@@ -252,6 +267,34 @@ mod tests {
                 assert_eq!(meaning(spelled).map(|entry| canonical(&entry)), Some(id.as_bytes().to_vec()));
             }
         }
+    }
+
+    #[test]
+    fn bundles_are_picked_from_by_hip_and_by_hipv4() {
+        for sample in BUNDLES {
+            for (id, _) in sample.entries {
+                let other = canonical(&kind_respelled(&meaning_of(id.as_bytes())));
+                assert_eq!(pick(sample.bytes, &other), pick(sample.bytes, id.as_bytes()), "{}: {id}", sample.name);
+            }
+        }
+    }
+
+    #[test]
+    fn a_bundle_of_clangs_driver_is_picked_from() {
+        let driver = BUNDLES.iter().find(|sample| sample.name == "driver").unwrap();
+        let answer = |device: &str| {
+            let picked = pick(driver.bytes, device.as_bytes());
+            (picked.number, picked.index, picked.position, picked.size)
+        };
+        for kind in ["hip", "hipv4"] {
+            assert_eq!(answer(&format!("{kind}-amdgcn-amd-amdhsa--gfx1030")), (OK, 1, 4096, 3288));
+            assert_eq!(answer(&format!("{kind}-amdgcn-amd-amdhsa-gfx906:xnack+:sramecc-")), (OK, 2, 8192, 3048));
+            assert_eq!(answer(&format!("{kind}-amdgcn-amd-amdhsa-gfx906:xnack-:sramecc-")), (NONE, 0, 0, 0));
+            assert_eq!(answer(&format!("{kind}-amdgcn-amd-amdhsa-gfx906")), (NONE, 0, 0, 0));
+        }
+        assert_eq!(answer("openmp-amdgcn-amd-amdhsa--gfx1030"), (NONE, 0, 0, 0));
+        assert_eq!(answer("host-x86_64-unknown-linux"), (OK, 0, 4096, 0));
+        assert_eq!(answer("host-x86_64-unknown-linux-gnu"), (NONE, 0, 0, 0));
     }
 
     #[test]

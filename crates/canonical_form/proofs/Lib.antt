@@ -7,3 +7,4 @@ pub mod WriteLaws
 pub mod PieceLaws
 pub mod SpanLaws
 pub mod PlanLaws
+pub mod KeyLaws

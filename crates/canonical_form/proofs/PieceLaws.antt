@@ -11,7 +11,7 @@ use lib.Seq.{take-at, getD-at, drop-cons, getD-drop, getD-append-add}
 use lib.Dec.{T, eqb, ltb, eqb→eq}
 use borrow.Author.Tests.{eqb-true, lt-ltb, le-ltb, ltb-true, ltb-false}
 use Rattle.wire.specs.Lists.{every}
-use Rattle.entry_id.specs.Text.{splitOn, joinWith, notColon}
+use Rattle.entry_id.specs.Text.{splitOn, joinWith, otherThan, notColon}
 use Rattle.wire.specs.Bytes.{empty}
 use Rattle.wire.proofs.Bools.{and-l, and-r, and-t, or-t, is-true, is-false, of-true, cases}
 use Rattle.entry_id.proofs.TextLaws.{every-append, every-imp, split-last, split-skip, split-some, join-split}
@@ -137,11 +137,11 @@ module _ (x : List ℕ) (a r : ℕ) (h : Run nameByte x a r) where
 -- ---- a piece that was found
 
 name-not-colon : (b : ℕ) → T (nameByte b) → T (notColon b)
-unfolding nameByte notColon
+unfolding nameByte otherThan
 name-not-colon b t = of-true (not (eqb b 58)) (ap not (is-false (eqb b 58) λ e. subst (λ y. T (nameByte y)) (eqb→eq b 58 e) t))
 
 sign-not-colon : (b : ℕ) → T (signByte b) → T (notColon b)
-unfolding signByte notColon
+unfolding signByte otherThan
 sign-not-colon b t = of-true (not (eqb b 58)) (ap not (is-false (eqb b 58) λ e. subst (λ y. T (signByte y)) (eqb→eq b 58 e) t))
 
 module _ (x : List ℕ) (a r : ℕ) (h : Piece x a r) where

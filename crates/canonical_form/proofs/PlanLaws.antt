@@ -1,9 +1,9 @@
 -- The spans of a text against the features that it means, and the rules as the code checks them. Assumes nothing.
 use Rattle.canonical_form.specs.declared.Form.{Form}
 use Rattle.canonical_form.specs.Made.{formOf}
-use Rattle.entry_id.proofs.CanonicalLaws.{head-canon}
+use Rattle.entry_id.proofs.CanonicalLaws.{head-canon, head-after, head-kind}
 use Prim.Native.Nat.{ℕ, suc, _+_, _≤_, _<_}
-use mathlib.Core.Path.{_≡_, refl, sym, ap, _∙_, subst}
+use mathlib.Core.Path.{_≡_, refl, sym, ap, ap₂, _∙_, subst}
 use mathlib.Core.Logic.{inl, inr}
 use mathlib.Core.Bool.{Bool, true, false, not, _&&_, _||_, cond}
 use mathlib.Core.List.{append-nil, append-assoc, List, [], _∷_, _++_, map}
@@ -23,9 +23,9 @@ use Rattle.entry_id.specs.Meaning.{byName, Feature, fieldsOf, piecesOf, feature
 use Rattle.entry_id.proofs.ReadBack.{canon-is, canon-refused}
 use Rattle.entry_id.proofs.CompareLaws.{piece-feature, valid-signed}
 use Rattle.entry_id.specs.Scan.{part, piecesAt}
-use Rattle.canonical_form.specs.Heads.{HeadAt}
+use Rattle.canonical_form.specs.Heads.{HeadAt, Kinded}
 use Rattle.canonical_form.specs.Spans.{pieceOk, good, pieceAt, atOf, signOf, nameOf, chunkOf, chunks, Pieces, headText, PlanAt, PlanIs}
-use Rattle.entry_id.specs.Canonical.{canonicalIn, headOf, headKey, headNumber}
+use Rattle.entry_id.specs.Canonical.{canonicalIn, kindPart, afterKind, keyOf, headKey}
 use Rattle.entry_id.proofs.RunLaws.{part-cons, part-length, part-split, part-rest, pieces-here, pieces-none}
 use Rattle.wire.specs.Bytes.{overwrite}
 use Rattle.wire.proofs.OverwriteLaws.{overwrite-in, overwrite-then}
@@ -427,14 +427,19 @@ module _ (x : List ℕ) (at dashes stop upto n : ℕ) (t : List ℕ) (p : PlanAt
         ap (take (stop + dashes)) (e ∙ overwrite-in o 0 hd (omega (arith, plan-head, plan-length)) ∙ ap (λ l. l ++ r) (head-more x at dashes stop upto (p .place) (p .below)) ∙ append-assoc hs (part x stop upto) r)
         ∙ take-at hs (part x stop upto ++ r) (stop + dashes) (head-length x at dashes stop (p .place) (omega (arith, p .below, p .within)))
 
-    canon-head : headOf (canonicalIn (length o) x) ≡ headText x at dashes stop
-    canon-head = ap headOf (canon-fits ∙ sym (canon-write ∙ p .text)) ∙ head-canon x (p .right) ∙ p .head
+    -- that head, and the key of the form
+    pub head-kinded : Kinded (headText x at dashes stop)
+    unfolding sixFields joinWith
+    head-kinded = record { kind = meaning x .kind; rest = _; kind-in = valid-parts x (p .right) .kind-in; is = sym (p .head) }
 
-    pub form-is : (key : ℕ) → key ≡ headNumber (headText x at dashes stop)
+    pub form-is : (key : ℕ) → key ≡ keyOf (kindPart (headText x at dashes stop)) (afterKind (headText x at dashes stop))
         → _≡_ {A = Form} (record { length = length x + dashes; key = key }) (formOf (canonicalIn (length o) x))
     unfolding formOf headKey
     form-is key f =
-        let k : key ≡ headNumber (headOf (canonicalIn (length o) x)) = f ∙ ap headNumber (sym canon-head) in
+        let c : canon x ≡ canonicalIn (length o) x = canon-write ∙ p .text ∙ sym canon-fits in
+        let h = sym (head-canon x (p .right) ∙ p .head) in
+        let k : key ≡ headKey (canonicalIn (length o) x) =
+        f ∙ ap₂ keyOf (ap kindPart h ∙ head-kind x (p .right)) (ap afterKind h ∙ head-after x (p .right)) ∙ ap headKey c in
         λ i. record { length = sym canon-length-is i; key = k i }
 
     -- both parts written

@@ -56,6 +56,13 @@ pub record TripleIs (x : List ℕ) (d : ℕ) : Type 0 where
   pub found : 0 < d → Triple x d
   pub refused : d ≡ 0 → valid x ≡ false
 
+-- the text starts with a kind and a '-'
+pub record Kinded (x : List ℕ) : Type 0 where
+  pub kind : List ℕ
+  pub rest : List ℕ
+  pub kind-in : T (any (same kind) kinds)
+  pub is : x ≡ kind ++ 45 ∷ rest
+
 -- the head is in order; its canonical form has these dashes more, at this place
 pub record HeadAt (x : List ℕ) (at dashes stop : ℕ) (proc : Bool) : Type 0 where
   pub kind-in : T (any (same (meaning x .kind)) kinds)

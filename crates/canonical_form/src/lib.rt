@@ -10,9 +10,10 @@ ghost use mathlib.Core.List.{[], _++_};
 ghost use lib.ListN.{length, drop};
 ghost use Rattle.wire.specs.Word.{word};
 ghost use Rattle.canonical_form.specs.Made.{formOf};
-ghost use Rattle.entry_id.specs.Canonical.{headNumber, canonicalIn};
+ghost use Rattle.entry_id.specs.Canonical.{kindPart, afterKind, headNumber, keyOf, canonicalIn};
+ghost use Rattle.canonical_form.specs.Heads.{Kinded};
 
-// A canonical form that was made: its length, and a number made from its head alone. Forms with equal heads have equal keys.
+// A canonical form that was made: its length, and a number made from its head. Forms that a test of `entry_compare` relates have equal keys.
 pub struct Form {
     pub length: usize,
     pub key: u64,
@@ -33,6 +34,33 @@ fn head_number(head: &[u8]) -> u64
     ensures { λ r. ⌜ r ≡ headNumber (now (head .entry)) ⌝ }
 {
     std::num::wrapping_add_u64(wire_read::word8_at(head, 0), last_word(head))
+}
+
+// The length of the kind that a head starts with. Its first, second and fourth bytes tell.
+fn kind_length(head: &[u8]) -> usize
+    requires { ⌜ Kinded (now head) ⌝ }
+    ensures { λ r. ⌜ r ≡ length (kindPart (now (head .entry))) ⌝ }
+{
+    if head[0] == b'o' {
+        return 6;
+    }
+    if head[1] == b'o' {
+        return 4;
+    }
+    if head[3] == b'-' {
+        return 3;
+    }
+    5
+}
+
+// The key of a form with this head. hipv4, of 5 bytes, is compared as hip, of 3.
+fn head_key(head: &[u8]) -> u64
+    requires { ⌜ Kinded (now head) ⌝ }
+    ensures { λ r. ⌜ r ≡ keyOf (kindPart (now (head .entry))) (afterKind (now (head .entry))) ⌝ }
+{
+    let kind = kind_length(head);
+    let compared = if kind == 5 { 3 } else { kind };
+    std::num::wrapping_add_u64(head_number(&head[kind..]), compared as u64)
 }
 
 fn no_form() -> Form
@@ -58,7 +86,7 @@ pub fn canonical(id: &[u8], out: &mut [u8]) -> Form
     let upto = m.upto;
     plan::put_text(out, id, m.at, dashes, upto);
     let stop = m.stop;
-    let key = head_number(&out[..stop + dashes]);
+    let key = head_key(&out[..stop + dashes]);
     plan::put_pieces(out, upto + dashes, id, &spans, m.n);
     Form { length, key }
 }

@@ -3,43 +3,31 @@ use Prim.Native.Nat.{ℕ, zero, suc, _+_, _-_, _≤_, _<_}
 use mathlib.Core.Path.{_≡_, refl, sym, ap, ap₂, _∙_, subst}
 use mathlib.Core.Logic.{inl, inr}
 use mathlib.Core.Bool.{Bool, true, false, not, _&&_}
-use mathlib.Core.List.{append-nil, List, [], _∷_, _++_}
+use mathlib.Core.List.{List, [], _∷_}
 use lib.ListN.{length, getD, take, drop, drop-of-length-le, length-drop}
 use lib.Seq.{take-all, drop-cons, drop-drop, getD-drop, getD-take, length-take-le}
 use lib.Dec.{T, ltb, eqb}
 use borrow.Author.Tests.{eqb-true, eqb-false, eq-eqb, ne-eqb, lt-ltb, le-ltb, ltb-true, ltb-false, not-true, not-false}
 use Rattle.wire.specs.Lists.{agree, any, every}
-use Rattle.entry_id.specs.Text.{splitOn, onFirst, notColon}
+use Rattle.entry_id.specs.Text.{splitOn, onFirst, otherThan, notColon}
 use Rattle.wire.specs.Bytes.{same, common}
-use Rattle.entry_id.proofs.TextLaws.{split-last, split-skip, split-some, every-imp}
+use Rattle.entry_id.proofs.TextLaws.{every-imp}
+use Rattle.entry_id.proofs.KindLaws.{head-none, head-colon, head-more}
 use Rattle.wire.proofs.Bools.{cases, byBool, clash, and-both, or-true, and-false, of-true, is-true, and-l, and-r, and-t, or-l, or-r}
 use Rattle.wire.proofs.ByteLaws.{same-refl, same-eq, same-length, same-common, common-within}
 use Rattle.entry_id.specs.Meaning.{piecesOf}
-use Rattle.entry_id.proofs.ReadBack.{no-colon}
 use Rattle.entry_id.specs.Scan.{part, Run, piecesAt, endsAt}
 use Rattle.entry_compare.specs.Meet.{MeetIs}
-use Rattle.entry_id.specs.Canonical.{headOf, within, signByte, sameButSign, compatibleText, mixedText}
-use Rattle.entry_id.proofs.RunLaws.{part-drop, part-start, pieces-here, pieces-none}
+use Rattle.entry_id.specs.Canonical.{headOf, within, signByte, sameButSign, compatibleSpelled, mixedSpelled}
+use Rattle.entry_id.proofs.RunLaws.{cut-run, part-start, pieces-here, pieces-none}
 use native.Mathlib.Omega.{arith}
 use native.Mathlib.Numerals.{add-one}
 
 module _ (x : List ℕ) (a r : ℕ) (h : Run notColon x a r) where
   -- the text from a on starts with the piece up to r
   pub cut-piece : splitOn 58 (drop a x) ≡ part x a r ∷ piecesAt x r
-  unfolding notColon
-  cut-piece =
-      let d = part-drop x a r (h .low) in
-      elim (cases (ltb r (length x))) [
-        | inl e ↦
-            let k = ltb-true r (length x) e in
-            let c : getD x r 0 ≡ 58 = eqb-true (getD x r 0) 58 (not-false _ (h .stop k)) in
-            ap (splitOn 58) (d ∙ ap (λ z. part x a r ++ z) (drop-cons x r 0 k ∙ ap (λ b. b ∷ drop (suc r) x) c))
-            ∙ split-skip 58 notColon no-colon (part x a r) (drop (suc r) x) (h .passed) ∙ ap (λ l. part x a r ∷ l) (sym (pieces-here x r k))
-        | inr e ↦
-            let k = ltb-false r (length x) e in
-            ap (splitOn 58) (d ∙ ap (λ z. part x a r ++ z) (drop-of-length-le x k) ∙ append-nil (part x a r))
-            ∙ split-last 58 notColon no-colon (part x a r) (h .passed) ∙ ap (λ l. part x a r ∷ l) (sym (pieces-none x r k))
-      ]
+  unfolding piecesAt
+  cut-piece = cut-run 58 x a r h
 
 pub pieces-is : (x : List ℕ) (r : ℕ) → Run notColon x 0 r → piecesOf x ≡ piecesAt x r
 unfolding piecesOf
@@ -98,19 +86,6 @@ common-get : (s t : List ℕ) (i : ℕ) → i < common s t → getD s i 0 ≡ ge
 common-get s t i h =
     sym (getD-take (suc i) s i 0 (omega arith)) ∙ ap (λ l. getD l i 0) (common-take s t (suc i) (omega arith)) ∙ getD-take (suc i) t i 0 (omega arith)
 
--- the head of a text, byte by byte
-head-none : headOf [] ≡ []
-unfolding headOf splitOn
-head-none = refl
-
-head-colon : (y : ℕ) (x : List ℕ) → y ≡ 58 → headOf (y ∷ x) ≡ []
-unfolding headOf splitOn
-head-colon y x e = rw (eq-eqb y 58 e)
-
-head-more : (y : ℕ) (x : List ℕ) → (y ≡ 58 → ⊥) → headOf (y ∷ x) ≡ y ∷ headOf x
-unfolding headOf splitOn onFirst
-head-more y x n = let (q, qs, e) = split-some 58 x in rw (ne-eqb y 58 n, e)
-
 module _ (x : List ℕ) (i : ℕ) where
   head-ends : endsAt x i ≡ true → headOf (drop i x) ≡ []
   unfolding endsAt
@@ -132,7 +107,7 @@ module _ (x : List ℕ) (i : ℕ) where
   head-on e = let g = goes-on e in rw (drop-cons x i 0 (g .0)) (head-more (getD x i 0) (drop (suc i) x) (g .1))
 
   stop-here : endsAt x i ≡ true → i < length x → notColon (getD x i 0) ≡ false
-  unfolding notColon endsAt
+  unfolding otherThan endsAt
   stop-here e k = ap not (rw (lt-ltb i (length x) k) at e)
 
 module _ (a b : List ℕ) (i : ℕ) where
@@ -171,7 +146,7 @@ every-get p (x ∷ l) t (suc k) h = every-get p l (and-r (p x) (every p l) t) k 
 -- a head that ends at e
 module _ (x : List ℕ) (e : ℕ) (r : Run notColon x 0 e) where
   head-goes : (k : ℕ) → k < e → endsAt x k ≡ false
-  unfolding endsAt notColon
+  unfolding endsAt otherThan
   head-goes k h =
       let t : T (every notColon (take e x)) = subst (λ z. T (every notColon z)) (part-start x e) (r .passed) in
       let l : k < length (take e x) = omega (arith, length-take-le e x (r .high)) in
@@ -179,7 +154,7 @@ module _ (x : List ℕ) (e : ℕ) (r : Run notColon x 0 e) where
       rw (lt-ltb k (length x) (omega (arith, r .high))) (not-true _ q)
 
   head-stops : endsAt x e ≡ true
-  unfolding endsAt notColon
+  unfolding endsAt otherThan
   head-stops = elim (cases (ltb e (length x))) [
     | inl h ↦ rw h (not-false _ (r .stop (ltb-true e (length x) h)))
     | inr h ↦ rw h
@@ -236,17 +211,17 @@ unfolding endsAt
 ends-past x e h = rw (le-ltb e (length x) h)
 
 module _ (a b : List ℕ) (r : ℕ) (m : MeetIs a b r) where
-  pub compatible-yes : 0 < r → within (piecesAt b (r - 1)) (piecesAt a (r - 1)) ≡ compatibleText a b
-  unfolding compatibleText
+  pub compatible-yes : 0 < r → within (piecesAt b (r - 1)) (piecesAt a (r - 1)) ≡ compatibleSpelled a b
+  unfolding compatibleSpelled
   compatible-yes h = let f = m .found h in rw (f .0, pieces-is a (r - 1) (f .1 .0), pieces-is b (r - 1) (f .1 .1))
 
-  pub compatible-no : r ≡ 0 → false ≡ compatibleText a b
-  unfolding compatibleText
+  pub compatible-no : r ≡ 0 → false ≡ compatibleSpelled a b
+  unfolding compatibleSpelled
   compatible-no h = rw (m .differ h)
 
   -- of texts that are not the same but for signs
-  pub mixed-meet : agree sameButSign a b ≡ false → (q : Bool) → (0 < r → q ≡ true) → (r ≡ 0 → q ≡ false) → q ≡ mixedText a b
-  unfolding mixedText
+  pub mixed-meet : agree sameButSign a b ≡ false → (q : Bool) → (0 < r → q ≡ true) → (r ≡ 0 → q ≡ false) → q ≡ mixedSpelled a b
+  unfolding mixedSpelled
   mixed-meet e q f g = elim (cases (ltb 0 r)) [
     | inl z ↦ let k = ltb-true 0 r z in rw (e, m .found k .0) (f k)
     | inr z ↦ let k : r ≡ 0 = omega (arith, ltb-false 0 r z) in rw (e, m .differ k) (g k)
@@ -261,14 +236,14 @@ within-self (x ∷ l) =
     (every-imp (λ p. any (same p) l) (λ p. any (same p) (x ∷ l)) (λ p t. or-r (same p x) (any (same p) l) t) l (within-self l))
 
 -- a text is compatible with itself
-pub compatible-self : (a b : List ℕ) → same a b ≡ true → true ≡ compatibleText a b
-unfolding compatibleText within
+pub compatible-self : (a b : List ℕ) → same a b ≡ true → true ≡ compatibleSpelled a b
+unfolding compatibleSpelled within
 compatible-self a b e =
     sym (is-true _ (and-t (same (headOf a) (headOf a)) (within (piecesOf a) (piecesOf a)) (same-refl (headOf a)) (within-self (piecesOf a))))
-    ∙ ap (compatibleText a) (same-eq a b (of-true (same a b) e))
+    ∙ ap (compatibleSpelled a) (same-eq a b (of-true (same a b) e))
 
-pub mixed-alike : (a b : List ℕ) → agree sameButSign a b ≡ true → false ≡ mixedText a b
-unfolding mixedText
+pub mixed-alike : (a b : List ℕ) → agree sameButSign a b ≡ true → false ≡ mixedSpelled a b
+unfolding mixedSpelled
 mixed-alike a b e = rw e (sym (and-false (same (headOf a) (headOf b))))
 
 -- ---- two texts, the same but for signs up to i
@@ -279,10 +254,6 @@ alike-lengths [] [] h = absurd (h refl)
 alike-lengths [] (y ∷ b) h = refl
 alike-lengths (x ∷ a) [] h = refl
 alike-lengths (x ∷ a) (y ∷ b) h = rw (alike-lengths a b (λ (e : length a ≡ length b). h (ap suc e))) (and-false (sameButSign x y))
-
--- from i on
-pub rest-is : (l : List ℕ) (i : ℕ) → take (length l - i) (drop i l) ≡ drop i l
-rest-is l i = take-all (length l - i) (drop i l) (omega (arith, length-drop i l))
 
 -- the common start decides nothing
 alike-common : (s t : List ℕ) → agree sameButSign s t ≡ agree sameButSign (drop (common s t) s) (drop (common s t) t)

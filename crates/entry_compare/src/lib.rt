@@ -1,28 +1,36 @@
-// The tests on two canonical forms: compatible, the same meaning, mixed. Each goes up to the first difference.
+// The tests on two canonical forms: compatible, the same meaning, mixed. Each goes up to the first difference; hip and hipv4 are one kind.
 ghost use mathlib.Core.Path.{_≡_};
 ghost use Prim.Native.Nat.{_+_, _≤_};
 ghost use mathlib.Core.Bool.{true, false};
 ghost use lib.ListN.{length};
 ghost use Rattle.wire.specs.Lists.{any, agree};
 ghost use Rattle.wire.specs.Bytes.{same, common};
-ghost use Rattle.entry_id.specs.Text.{notColon};
+ghost use Rattle.entry_id.specs.Text.{otherThan, notColon};
 ghost use Rattle.entry_id.specs.Scan.{Run, piecesAt};
-ghost use Rattle.entry_id.specs.Canonical.{within, signByte, sameButSign, compatibleText, sameText, mixedText};
-ghost use Rattle.entry_compare.specs.Meet.{MeetIs};
+ghost use Rattle.entry_id.specs.Compare.{comparedKind};
+ghost use Rattle.entry_id.specs.Canonical.{within, signByte, sameButSign, compatibleSpelled, mixedSpelled, compatibleText, sameText, mixedText};
+ghost use Rattle.entry_compare.specs.Meet.{MeetIs, KindEnds, CutIs};
+
+// Where the first c stands, or the end.
+fn find(x: &[u8], c: u8) -> usize
+    ensures { λ r. ⌜ Run (otherThan c) (now (x .entry)) 0 r ⌝ }
+{
+    let mut i = 0;
+    while i < x.len() {
+        if x[i] == c {
+            return i;
+        }
+        i += 1;
+    }
+    i
+}
 
 // The first ':' from `from` on, or the end.
 fn colon(x: &[u8], from: usize) -> usize
     requires { ⌜ from ≤ length (now x) ⌝ }
     ensures { λ r. ⌜ Run notColon (now (x .entry)) from r ⌝ }
 {
-    let mut i = from;
-    while i < x.len() {
-        if x[i] == b':' {
-            return i;
-        }
-        i += 1;
-    }
-    i
+    from + find(&x[from..], b':')
 }
 
 // Whether p is among the pieces of x whose head ends at stop.
@@ -98,11 +106,12 @@ fn meet(a: &[u8], b: &[u8], n: usize) -> usize
     e + 1
 }
 
-// Whether an entry is compatible with a device, both in canonical form. The same text is the most common answer, and the quickest.
-pub fn compatible(entry: &[u8], device: &[u8]) -> bool
-    ensures { λ r. ⌜ r ≡ compatibleText (now (entry .entry)) (now (device .entry)) ⌝ }
+// Whether an entry is compatible with a device, kinds as spelled. The common start has n bytes. The same text is the most common answer, and the
+// quickest.
+fn compatible_from(entry: &[u8], device: &[u8], n: usize) -> bool
+    requires { ⌜ n ≡ common (now entry) (now device) ⌝ }
+    ensures { λ r. ⌜ r ≡ compatibleSpelled (now (entry .entry)) (now (device .entry)) ⌝ }
 {
-    let n = wire_read::common_prefix(entry, device);
     if (n == entry.len()) & (n == device.len()) {
         return true;
     }
@@ -113,17 +122,17 @@ pub fn compatible(entry: &[u8], device: &[u8]) -> bool
     all_in(entry, m - 1, device, m - 1)
 }
 
-// How two entries in canonical form stand to each other: the same meaning; equal heads and other feature names.
+// How two entries stand to each other: the same meaning; equal heads and other feature names.
 pub struct Relation {
     pub same: bool,
     pub mixed: bool,
 }
 
-// Both at once, from one common start.
-pub fn relation_of(a: &[u8], b: &[u8]) -> Relation
-    ensures { λ r. ⌜ r ≡ record { same = sameText (now (a .entry)) (now (b .entry)); mixed = mixedText (now (a .entry)) (now (b .entry)) } ⌝ }
+// Both at once, kinds as spelled. The common start has n bytes.
+fn relation_from(a: &[u8], b: &[u8], n: usize) -> Relation
+    requires { ⌜ n ≡ common (now a) (now b) ⌝ }
+    ensures { λ r. ⌜ r ≡ record { same = same (now (a .entry)) (now (b .entry)); mixed = mixedSpelled (now (a .entry)) (now (b .entry)) } ⌝ }
 {
-    let n = wire_read::common_prefix(a, b);
     if (n == a.len()) & (n == b.len()) {
         return Relation {
             same: true,
@@ -138,4 +147,96 @@ pub fn relation_of(a: &[u8], b: &[u8]) -> Relation
     }
     let mixed = meet(a, b, n) != 0;
     Relation { same: false, mixed }
+}
+
+// Where the first field ends.
+fn kind_end(x: &[u8]) -> usize
+    ensures { λ r. ⌜ KindEnds (now (x .entry)) r ⌝ }
+{
+    let d = find(x, b'-');
+    find(&x[..d], b':')
+}
+
+// The kind that a kind is compared as: hip for hipv4.
+fn compared_kind(kind: &[u8]) -> &[u8]
+    ensures { λ r. ⌜ now r ≡ comparedKind (now (kind .entry)) ⌝ }
+{
+    if wire_read::same_bytes(kind, b"hipv4") {
+        return &kind[..3];
+    }
+    kind
+}
+
+// Two texts cut behind their kinds: where, and whether the kinds are compared as one.
+struct Cut {
+    a: usize,
+    b: usize,
+    one: bool,
+}
+
+fn cut_kinds(a: &[u8], b: &[u8]) -> Cut
+    ensures { λ r. ⌜ CutIs (now (a .entry)) (now (b .entry)) (r .a) (r .b) (r .one) ⌝ }
+{
+    let i = kind_end(a);
+    let j = kind_end(b);
+    let one = wire_read::same_bytes(compared_kind(&a[..i]), compared_kind(&b[..j]));
+    Cut { a: i, b: j, one }
+}
+
+// The tests with the texts cut behind their kinds.
+
+fn compatible_cut(entry: &[u8], device: &[u8]) -> bool
+    ensures { λ r. ⌜ r ≡ compatibleText (now (entry .entry)) (now (device .entry)) ⌝ }
+{
+    let c = cut_kinds(entry, device);
+    if !c.one {
+        return false;
+    }
+    let i = c.a;
+    let j = c.b;
+    let e = &entry[i..];
+    let d = &device[j..];
+    compatible_from(e, d, wire_read::common_prefix(e, d))
+}
+
+fn relation_cut(a: &[u8], b: &[u8]) -> Relation
+    ensures { λ r. ⌜ r ≡ record { same = sameText (now (a .entry)) (now (b .entry)); mixed = mixedText (now (a .entry)) (now (b .entry)) } ⌝ }
+{
+    let c = cut_kinds(a, b);
+    if !c.one {
+        return Relation {
+            same: false,
+            mixed: false,
+        };
+    }
+    let i = c.a;
+    let j = c.b;
+    let x = &a[i..];
+    let y = &b[j..];
+    relation_from(x, y, wire_read::common_prefix(x, y))
+}
+
+// hip and hipv4 have three bytes in common. So with any other common start, kinds that are one are spelled alike, and nothing is cut.
+const HIP: usize = 3;
+
+// Whether an entry is compatible with a device, both in canonical form.
+pub fn compatible(entry: &[u8], device: &[u8]) -> bool
+    ensures { λ r. ⌜ r ≡ compatibleText (now (entry .entry)) (now (device .entry)) ⌝ }
+{
+    let n = wire_read::common_prefix(entry, device);
+    if n == HIP {
+        return compatible_cut(entry, device);
+    }
+    compatible_from(entry, device, n)
+}
+
+// How two entries in canonical form stand to each other.
+pub fn relation_of(a: &[u8], b: &[u8]) -> Relation
+    ensures { λ r. ⌜ r ≡ record { same = sameText (now (a .entry)) (now (b .entry)); mixed = mixedText (now (a .entry)) (now (b .entry)) } ⌝ }
+{
+    let n = wire_read::common_prefix(a, b);
+    if n == HIP {
+        return relation_cut(a, b);
+    }
+    relation_from(a, b, n)
 }

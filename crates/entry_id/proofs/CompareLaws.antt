@@ -1,55 +1,27 @@
--- The definitions in the terms that code on one text has: positions, pieces in the order of the text, heads of canonical forms. Assumes nothing.
-use Prim.Native.Nat.{ℕ, zero, suc, _+_, _-_, _<_}
+-- The definitions in the terms that code on texts has: pieces, heads of canonical forms, names in order. Assumes nothing.
+use Prim.Native.Nat.{ℕ, suc, _-_}
 use Prim.Native.Char.{code}
-use mathlib.Core.Path.{_≡_, refl, sym, ap, _∙_, subst}
-use mathlib.Core.Logic.{inl, inr, _≢_}
+use mathlib.Core.Path.{_≡_, refl, sym, ap, ap₂, _∙_, subst}
+use mathlib.Core.Logic.{inl, inr}
 use mathlib.Core.Bool.{Bool, true, _&&_, _||_}
 use mathlib.Core.List.{List, [], _∷_, map, List·Memᴰ, List·Memᴰ·head, List·Memᴰ·tail, List·Memᴰ·not-nil, List·Memᴰ·cases-cons, Memᴰ·cast, head-eq-of-cons-eq, tail-eq-of-cons-eq}
 use native.Mathlib.Omega.{arith}
-use lib.ListN.{length, getD, take, drop}
+use lib.ListN.{length, getD}
 use lib.Seq.{take-suc, take-all}
 use lib.Dec.{T, eqb, eqb→eq}
-use borrow.Author.Tests.{eq-eqb, ne-eqb}
-use Rattle.wire.proofs.SortLaws.{sort-every, sort-any, one-list}
+use Rattle.wire.proofs.SortLaws.{one-list}
 use Rattle.wire.specs.Lists.{agree, any, every}
-use Rattle.wire.specs.Order.{risingBy, sortBy}
-use Rattle.entry_id.specs.Text.{onFirst, splitOn, joinWith}
+use Rattle.wire.specs.Order.{risingBy}
+use Rattle.entry_id.specs.Text.{splitOn, joinWith}
 use Rattle.wire.specs.Bytes.{same, before}
 use Rattle.wire.proofs.Bools.{bool-ext, and-l, and-r, and-t, or-t, or-l, or-r}
 use Rattle.wire.proofs.ByteLaws.{same-refl, same-eq}
-use Rattle.entry_id.specs.Meaning.{byName, Feature, Meaning, piecesOf, feature, meaningOf, meaning, sign, piece, sixFields, signed, shaped, proper, valid}
+use Rattle.entry_id.specs.Meaning.{byName, Feature, Meaning, piecesOf, feature, sign, piece, sixFields, signed, shaped, valid}
 use Rattle.entry_id.specs.Theorems.{nameIn}
-use Rattle.entry_id.specs.Compare.{sameTarget, sameFeature, compatible, sameNames}
-use Rattle.entry_id.proofs.ReadBack.{parts, head-cut}
-use Rattle.entry_id.proofs.FeatureLaws.{sameFeature-eq, sameFeature-refl, sameTarget-eq, eq-sameTarget}
-
--- ---- cutting by positions
-
--- the first c stands at i
-pub split-found : (c i : ℕ) (x : List ℕ) → i < length x → ((k : ℕ) → k < i → getD x k 0 ≢ c) → getD x i 0 ≡ c → splitOn c x ≡ take i x ∷ splitOn c (drop (suc i) x)
-unfolding splitOn onFirst
-split-found c i [] h n e = absurd (omega arith)
-split-found c zero (y ∷ x) h n e = rw (eq-eqb y c e)
-split-found c (suc i) (y ∷ x) h n e =
-    rw (ne-eqb y c (n 0 (omega arith)), split-found c i x (omega arith) (λ k l. n (suc k) (omega arith)) e)
-
--- there is no c
-pub split-none : (c : ℕ) (x : List ℕ) → ((k : ℕ) → k < length x → getD x k 0 ≢ c) → splitOn c x ≡ x ∷ []
-unfolding splitOn onFirst
-split-none c [] n = refl
-split-none c (y ∷ x) n = rw (ne-eqb y c (n 0 (omega arith)), split-none c x (λ k l. n (suc k) (omega arith)))
-
--- ---- tests on the features go by the text's order
-
-every-ext : {A : Type 0} (p q : A → Bool) → ((x : A) → p x ≡ q x) → (l : List A) → every p l ≡ every q l
-unfolding every
-every-ext p q h [] = refl
-every-ext p q h (x ∷ l) = let a = h x in let b = every-ext p q h l in cc
-
-within-sorted : (a b : List Feature) → every (λ f. any (sameFeature f) (sortBy byName b)) (sortBy byName a) ≡ every (λ f. any (sameFeature f) b) a
-within-sorted a b =
-    sort-every byName (λ f. any (sameFeature f) (sortBy byName b)) a
-    ∙ every-ext (λ f. any (sameFeature f) (sortBy byName b)) (λ f. any (sameFeature f) b) (λ f. sort-any byName (sameFeature f) b) a
+use Rattle.entry_id.specs.Compare.{sameFeature, sameNames}
+use Rattle.entry_id.specs.Canonical.{within}
+use Rattle.entry_id.proofs.ReadBack.{Plain, all-signed, features-pieces, head-cut}
+use Rattle.entry_id.proofs.FeatureLaws.{sameFeature-eq, sameFeature-refl, agree-eq, agree-refl}
 
 -- ---- a feature is its piece
 
@@ -96,25 +68,23 @@ pub valid-signed : (x : List ℕ) → T (valid x) → T (every signed (piecesOf 
 unfolding valid shaped
 valid-signed x v = search (and-l, and-r)
 
--- compatible: every piece of the entry stands among the device's pieces
-pub compatible-pieces : (e d : List ℕ) → T (valid e) → T (valid d)
-    → compatible (meaning e) (meaning d) ≡ (sameTarget (meaning e) (meaning d) && every (λ p. any (same p) (piecesOf d)) (piecesOf e))
-unfolding compatible meaning meaningOf
-compatible-pieces e d s t =
-    ap (λ (b : Bool). sameTarget (meaning e) (meaning d) && b)
-    (within-sorted (map feature (piecesOf e)) (map feature (piecesOf d)) ∙ every-pieces (piecesOf e) (piecesOf d) (valid-signed e s) (valid-signed d t))
+-- each feature is stated exactly where its piece stands
+pub within-pieces : (fs gs : List Feature) → within (map piece gs) (map piece fs) ≡ every (λ f. any (sameFeature f) gs) fs
+unfolding within
+within-pieces fs gs =
+    sym (every-pieces (map piece fs) (map piece gs) (all-signed fs) (all-signed gs))
+    ∙ ap₂ (λ ps qs. every (λ f. any (sameFeature f) qs) ps) (features-pieces fs) (features-pieces gs)
 
 -- ---- heads
 
--- kind, triple and processor are the same exactly where the canonical forms agree before the first ':'
-pub sameTarget-heads : (a b : Meaning) → T (proper a) → T (proper b) → sameTarget a b ≡ same (joinWith (code "-") (sixFields a)) (joinWith (code "-") (sixFields b))
-sameTarget-heads a b s t =
-    bool-ext (sameTarget a b) (same (joinWith (code "-") (sixFields a)) (joinWith (code "-") (sixFields b)))
-    (λ u. subst (λ fs. T (same (joinWith (code "-") (sixFields a)) (joinWith (code "-") fs))) (sameTarget-eq a b u) (same-refl (joinWith (code "-") (sixFields a))))
-    (λ u. eq-sameTarget a b
-    (sym (head-cut a (parts a s))
-    ∙ ap (splitOn (code "-")) (same-eq (joinWith (code "-") (sixFields a)) (joinWith (code "-") (sixFields b)) u)
-    ∙ head-cut b (parts b t)))
+-- the six fields are the same exactly where the canonical forms agree before the first ':'
+pub fields-heads : (a b : Meaning) → Plain a → Plain b → agree same (sixFields a) (sixFields b) ≡ same (joinWith (code "-") (sixFields a)) (joinWith (code "-") (sixFields b))
+fields-heads a b s t =
+    let x = joinWith (code "-") (sixFields a) in
+    let y = joinWith (code "-") (sixFields b) in
+    bool-ext (agree same (sixFields a) (sixFields b)) (same x y)
+    (λ u. subst (λ fs. T (same x (joinWith (code "-") fs))) (agree-eq same same-eq (sixFields a) (sixFields b) u) (same-refl x))
+    (λ u. subst (λ fs. T (agree same (sixFields a) fs)) (sym (head-cut a s) ∙ ap (splitOn (code "-")) (same-eq x y u) ∙ head-cut b t) (agree-refl same same-refl (sixFields a)))
 
 -- ---- the same set of names, either way round
 

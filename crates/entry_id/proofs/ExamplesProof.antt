@@ -18,6 +18,7 @@ idExamples = record {
   seven-fields = refl;
   stated-twice = refl;
   unsigned = refl;
+  kept-kind = refl;
   other-kind = refl;
   empty-vendor = refl;
 }

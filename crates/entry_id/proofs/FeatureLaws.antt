@@ -1,6 +1,6 @@
 -- The features of a meaning as a set, and the tests on meanings: the laws that make a pick's answer the only one. Assumes nothing.
 use Prim.Native.Nat.{ℕ}
-use mathlib.Core.Path.{_≡_, refl, sym, _∙_, subst}
+use mathlib.Core.Path.{_≡_, refl, sym, ap, _∙_, subst}
 use mathlib.Core.Logic.{inl, inr, _↔_}
 use mathlib.Core.Bool.{Bool, true, false, not, _&&_, Bool·beq}
 use mathlib.Core.List.{List, [], _∷_, map, List·Memᴰ, List·Memᴰ·head, List·Memᴰ·tail, List·Memᴰ·not-nil, List·Memᴰ·cases-cons}
@@ -13,7 +13,7 @@ use Rattle.wire.proofs.Bools.{and-l, and-r, and-t, or-t, or-l, or-r}
 use Rattle.wire.proofs.ByteLaws.{same-refl, same-eq}
 use Rattle.entry_id.specs.Meaning.{byName, Feature, Meaning, piecesOf, feature, meaningOf, meaning, sixFields, valid}
 use Rattle.entry_id.proofs.ReadBack.{parts, proper-meaning}
-use Rattle.entry_id.specs.Compare.{sameTarget, sameFeature, compatible, sameNames, sameMeaning, mixed}
+use Rattle.entry_id.specs.Compare.{comparedKind, comparedAs, sameTarget, sameFeature, compatible, sameNames, sameMeaning, mixed}
 
 -- ---- the tests, read as facts
 
@@ -62,10 +62,6 @@ pub features-stated : (x : List ℕ) (f : Feature) → List·Memᴰ f (meaning x
 unfolding meaning meaningOf
 features-stated x f = (sort-out byName f (map feature (piecesOf x)), sort-in byName f (map feature (piecesOf x)))
 
--- ---- rising lists
-
--- ---- no name stated twice
-
 -- ---- the tests on meanings
 
 pub agree-eq : {A : Type 0} (t : A → A → Bool) → ((x y : A) → T (t x y) → x ≡ y) → (a b : List A) → T (agree t a b) → a ≡ b
@@ -83,13 +79,13 @@ unfolding agree
 agree-refl t h [] = tt
 agree-refl t h (x ∷ a) = and-t (t x x) (agree t a a) (h x) (agree-refl t h a)
 
-pub sameTarget-eq : (a b : Meaning) → T (sameTarget a b) → sixFields a ≡ sixFields b
+pub sameTarget-eq : (a b : Meaning) → T (sameTarget a b) → sixFields (comparedAs a) ≡ sixFields (comparedAs b)
 unfolding sameTarget
-sameTarget-eq a b t = agree-eq same same-eq (sixFields a) (sixFields b) t
+sameTarget-eq a b t = agree-eq same same-eq (sixFields (comparedAs a)) (sixFields (comparedAs b)) t
 
-pub eq-sameTarget : (a b : Meaning) → sixFields a ≡ sixFields b → T (sameTarget a b)
+pub eq-sameTarget : (a b : Meaning) → sixFields (comparedAs a) ≡ sixFields (comparedAs b) → T (sameTarget a b)
 unfolding sameTarget
-eq-sameTarget a b e = subst (λ fs. T (agree same (sixFields a) fs)) e (agree-refl same same-refl (sixFields a))
+eq-sameTarget a b e = subst (λ fs. T (agree same (sixFields (comparedAs a)) fs)) e (agree-refl same same-refl (sixFields (comparedAs a)))
 
 pub sameTarget-join : (a b c : Meaning) → T (sameTarget a b) → T (sameTarget c b) → T (sameTarget a c)
 sameTarget-join a b c s t = eq-sameTarget a c (sameTarget-eq a b s ∙ sym (sameTarget-eq c b t))
@@ -125,12 +121,12 @@ one-compatible e e′ d r s t n =
     (agree-within (d .features) r (e .features) (e′ .features) (and-r (sameTarget e d) (every (λ f. any (sameFeature f) (d .features)) (e .features)) s)
     (and-r (sameTarget e′ d) (every (λ f. any (sameFeature f) (d .features)) (e′ .features)) t) u)
 
--- `sameMeaning` is equality of meanings
-pub sameMeaning-eq : (a b : Meaning) → T (sameMeaning a b) → a ≡ b
-unfolding sameMeaning sixFields
+-- `sameMeaning` is equality of what meanings are compared as
+pub sameMeaning-eq : (a b : Meaning) → T (sameMeaning a b) → comparedAs a ≡ comparedAs b
+unfolding sameMeaning sixFields comparedAs
 sameMeaning-eq a b t =
     let h = sameTarget-eq a b (and-l (sameTarget a b) (agree sameFeature (a .features) (b .features)) t) in
-    let k : a .kind ≡ b .kind = cc in
+    let k : comparedKind (a .kind) ≡ comparedKind (b .kind) = cc in
     let r : a .arch ≡ b .arch = cc in
     let v : a .vendor ≡ b .vendor = cc in
     let s : a .system ≡ b .system = cc in
@@ -139,14 +135,14 @@ sameMeaning-eq a b t =
     let f = agree-eq sameFeature sameFeature-eq (a .features) (b .features) (and-r (sameTarget a b) (agree sameFeature (a .features) (b .features)) t) in
     λ i. record { kind = k i; arch = r i; vendor = v i; system = s i; environment = e i; processor = p i; features = f i }
 
-pub eq-sameMeaning : (a b : Meaning) → a ≡ b → T (sameMeaning a b)
-unfolding sameMeaning
+pub eq-sameMeaning : (a b : Meaning) → comparedAs a ≡ comparedAs b → T (sameMeaning a b)
+unfolding sameMeaning comparedAs
 eq-sameMeaning a b e =
-    subst (λ c. T (sameMeaning a c)) e
-    (and-t (sameTarget a a) (agree sameFeature (a .features) (a .features)) (eq-sameTarget a a refl) (agree-refl sameFeature sameFeature-refl (a .features)))
+    and-t (sameTarget a b) (agree sameFeature (a .features) (b .features)) (eq-sameTarget a b (ap sixFields e))
+    (subst (λ l. T (agree sameFeature (a .features) l)) (ap (λ (m : Meaning). m .features) e) (agree-refl sameFeature sameFeature-refl (a .features)))
 
 -- no two entries with different meanings that are not mixed are compatible with one device name
 pub one-entry : (x y d : List ℕ) → T (valid d) → T (compatible (meaning x) (meaning d)) → T (compatible (meaning y) (meaning d))
-    → T (not (mixed (meaning x) (meaning y))) → meaning x ≡ meaning y
+    → T (not (mixed (meaning x) (meaning y))) → comparedAs (meaning x) ≡ comparedAs (meaning y)
 one-entry x y d v s t n =
     sameMeaning-eq (meaning x) (meaning y) (one-compatible (meaning x) (meaning y) (meaning d) (parts (meaning d) (proper-meaning d v) .in-order) s t n)

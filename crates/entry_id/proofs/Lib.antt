@@ -3,6 +3,7 @@ pub mod ReadBack
 pub mod FeatureLaws
 pub mod CompareLaws
 pub mod SignLaws
+pub mod KindLaws
 pub mod CanonicalLaws
 pub mod Theorems
 pub mod ExamplesProof

@@ -13,7 +13,7 @@ use Rattle.wire.proofs.SortLaws.{sort-rising}
 use Rattle.wire.specs.Lists.{any, every}
 use Rattle.wire.specs.Order.{risingBy, sortBy}
 use Rattle.wire.specs.Bytes.{empty, same}
-use Rattle.entry_id.specs.Text.{splitOn, joinWith, notColon}
+use Rattle.entry_id.specs.Text.{splitOn, joinWith, otherThan, notColon}
 use Rattle.wire.proofs.Bools.{and-l, and-r, and-t, or-t, or-l, is-true, is-false, of-true, cases}
 use Rattle.entry_id.proofs.TextLaws.{every-imp, every-append, split-join}
 use Rattle.wire.proofs.ByteLaws.{same-eq}
@@ -50,14 +50,14 @@ signed-piece : (f : Feature) → T (signed (piece f))
 unfolding signed
 signed-piece f = rw (last-piece f) (sign-signed (f .on))
 
-all-signed : (fs : List Feature) → T (every signed (map piece fs))
+pub all-signed : (fs : List Feature) → T (every signed (map piece fs))
 unfolding every
 all-signed [] = tt
 all-signed (f ∷ fs) = and-t (signed (piece f)) (every signed (map piece fs)) (signed-piece f) (all-signed fs)
 
 -- ---- the features
 
-features-pieces : (fs : List Feature) → map feature (map piece fs) ≡ fs
+pub features-pieces : (fs : List Feature) → map feature (map piece fs) ≡ fs
 features-pieces [] = refl
 features-pieces (f ∷ fs) = let p = feature-piece f in let q = features-pieces fs in cc
 
@@ -82,15 +82,15 @@ parts m t = search (and-l, and-r) depth 12
 -- ---- bytes
 
 pub no-colon : T (notColon (code ":")) → ⊥
-unfolding notColon
+unfolding otherThan
 no-colon t = t
 
 pub no-dash : T (fieldByte (code "-")) → ⊥
 unfolding fieldByte nameByte
 no-dash t = t
 
-field-not-colon : (x : ℕ) → T (fieldByte x) → T (notColon x)
-unfolding fieldByte nameByte notColon
+pub field-not-colon : (x : ℕ) → T (fieldByte x) → T (notColon x)
+unfolding fieldByte nameByte otherThan
 field-not-colon x t = of-true (not (eqb x (code ":"))) (ap not (is-false (eqb x (code ":")) λ e. subst (λ y. T (fieldByte y)) (eqb→eq x (code ":") e) t))
 
 name-field : (x : ℕ) → T (nameByte x) → T (fieldByte x)
@@ -109,9 +109,19 @@ pub kind-bytes : (k : List ℕ) → T (any (same k) kinds) → T (every fieldByt
 unfolding kinds every fieldByte nameByte
 kind-bytes k t = any-holds (every fieldByte) k kinds t tt
 
-all-fields : (m : Meaning) → Proper m → T (every (every fieldByte) (sixFields m))
+-- what makes a text that is written readable
+pub record Plain (m : Meaning) : Type 0 where
+  pub all-fields : T (every (every fieldByte) (sixFields m))
+  pub all-named : T (every named (m .features))
+  pub in-order : T (risingBy byName (m .features))
+
+pub plain : (m : Meaning) → Proper m → Plain m
 unfolding every sixFields
-all-fields m h = and-t (every fieldByte (m .kind)) _ (kind-bytes (m .kind) (h .kind-in)) (h .field-bytes)
+plain m h = record {
+  all-fields = and-t (every fieldByte (m .kind)) _ (kind-bytes (m .kind) (h .kind-in)) (h .field-bytes);
+  all-named = h .all-named;
+  in-order = h .in-order;
+}
 
 join-every : (c : ℕ) (p : ℕ → Bool) → T (p c) → (fs : List (List ℕ)) → T (every (every p) fs) → T (every p (joinWith c fs))
 unfolding every joinWith
@@ -122,7 +132,7 @@ join-every c p s (f ∷ g ∷ fs) t =
     (and-t (p c) (every p (joinWith c (g ∷ fs))) s (join-every c p s (g ∷ fs) (and-r (every p f) (every (every p) (g ∷ fs)) t)))
 
 sign-not-colon : (b : Bool) → T (every notColon (sign b ∷ []))
-unfolding sign every notColon
+unfolding sign every otherThan
 sign-not-colon true = tt
 sign-not-colon false = tt
 
@@ -156,10 +166,10 @@ unfolding canonicalOf sixFields joinWith
 write-some m =
     omega (arith, length-join (code ":") (joinWith (code "-") (sixFields m)) (map piece (m .features)), length-append (m .kind) (code "-" ∷ joinWith (code "-") (m .arch ∷ m .vendor ∷ m .system ∷ m .environment ∷ m .processor ∷ [])))
 
-module _ (m : Meaning) (h : Proper m) where
+module _ (m : Meaning) (h : Plain m) where
   main-not-colon : T (every notColon (main m))
-  unfolding main notColon
-  main-not-colon = join-every (code "-") notColon tt (sixFields m) (every-imp (every fieldByte) (every notColon) (every-imp fieldByte notColon field-not-colon) (sixFields m) (all-fields m h))
+  unfolding main otherThan
+  main-not-colon = join-every (code "-") notColon tt (sixFields m) (every-imp (every fieldByte) (every notColon) (every-imp fieldByte notColon field-not-colon) (sixFields m) (h .all-fields))
 
   cut : splitOn (code ":") (canonicalOf m) ≡ main m ∷ map piece (m .features)
   unfolding canonicalOf main every
@@ -168,7 +178,7 @@ module _ (m : Meaning) (h : Proper m) where
   -- the six fields, out of the canonical form's head
   pub head-cut : splitOn (code "-") (joinWith (code "-") (sixFields m)) ≡ sixFields m
   unfolding sixFields
-  head-cut = split-join (code "-") fieldByte no-dash (m .kind) (m .arch ∷ m .vendor ∷ m .system ∷ m .environment ∷ m .processor ∷ []) (all-fields m h)
+  head-cut = split-join (code "-") fieldByte no-dash (m .kind) (m .arch ∷ m .vendor ∷ m .system ∷ m .environment ∷ m .processor ∷ []) (h .all-fields)
 
   -- what stands before the first ':' of the canonical form
   pub head-write : getD (splitOn (code ":") (canonicalOf m)) 0 [] ≡ joinWith (code "-") (sixFields m)
@@ -194,9 +204,9 @@ module _ (m : Meaning) (h : Proper m) where
   unfolding sixFields
   length-fields = rw fields-back
 
-  pub shaped-write : T (shaped (canonicalOf m))
+  shaped-write : T (leb (length (canonicalOf m)) 256) → T (shaped (canonicalOf m))
   unfolding shaped
-  shaped-write =
+  shaped-write fits =
       let some : T (leb 1 (length (canonicalOf m))) = le→leb 1 (length (canonicalOf m)) (write-some m) in
       let least : T (leb 4 (length (fieldsOf (canonicalOf m)))) = rw length-fields tt in
       let most : T (leb (length (fieldsOf (canonicalOf m))) 6) = rw length-fields tt in
@@ -205,7 +215,7 @@ module _ (m : Meaning) (h : Proper m) where
 
   pub valid-write : T (proper m) → T (valid (canonicalOf m))
   unfolding valid
-  valid-write t = and-t (shaped (canonicalOf m)) (proper (meaning (canonicalOf m))) shaped-write (rw meaning-write t)
+  valid-write t = and-t (shaped (canonicalOf m)) (proper (meaning (canonicalOf m))) (shaped-write (parts m t .fits)) (rw meaning-write t)
 
 -- ---- reading back, one text for each meaning, sizes
 
@@ -214,8 +224,11 @@ module _ (x : List ℕ) (v : T (valid x)) where
   unfolding valid
   proper-meaning = and-r (shaped x) (proper (meaning x)) v
 
+  pub plain-meaning : Plain (meaning x)
+  plain-meaning = plain (meaning x) (parts (meaning x) proper-meaning)
+
   pub read-back : meaning (canonicalOf (meaning x)) ≡ meaning x
-  read-back = meaning-write (meaning x) (parts (meaning x) proper-meaning)
+  read-back = meaning-write (meaning x) plain-meaning
 
   pub canon-is : canon x ≡ canonicalOf (meaning x)
   unfolding canon
@@ -225,7 +238,7 @@ module _ (x : List ℕ) (v : T (valid x)) where
   canon-meaning = rw canon-is read-back
 
   pub canon-valid : T (valid (canon x))
-  canon-valid = rw canon-is (valid-write (meaning x) (parts (meaning x) proper-meaning) proper-meaning)
+  canon-valid = rw canon-is (valid-write (meaning x) plain-meaning proper-meaning)
 
   pub canon-size : (1 ≤ length (canon x)) × (length (canon x) ≤ 256)
   canon-size = rw canon-is (write-some (meaning x), leb→le (length (canonicalOf (meaning x))) 256 (parts (meaning x) proper-meaning .fits))

@@ -13,7 +13,7 @@ use Rattle.wire.specs.Bytes.{empty, same}
 use Rattle.wire.proofs.ByteLaws.{same-sym}
 use Rattle.wire.proofs.Bools.{clash, cases, of-true, is-true, bool-ext}
 use Rattle.entry_id.specs.Meaning.{Meaning, meaning, sixFields, valid, canon}
-use Rattle.entry_id.specs.Compare.{compatible, sameMeaning, mixed, sameTarget, sameNames}
+use Rattle.entry_id.specs.Compare.{comparedAs, compatible, sameMeaning, mixed, sameTarget, sameNames}
 use Rattle.entry_id.specs.Canonical.{compatibleText, sameText, mixedText, canonicalIn}
 use Rattle.entry_id.specs.IdRules.{Lawful}
 use Rattle.entry_id.specs.Rules.{idRules}
@@ -54,7 +54,7 @@ mixed-sym : (a b : Meaning) → mixed a b ≡ mixed b a
 unfolding mixed sameTarget sameNames
 mixed-sym a b =
     ap₂ (λ s n. s && not n)
-    (agree-sym same same-sym (sixFields a) (sixFields b))
+    (agree-sym same same-sym (sixFields (comparedAs a)) (sixFields (comparedAs b)))
     (agree-sym (λ f g. same (f .name) (g .name)) (λ f g. same-sym (f .name) (g .name)) (a .features) (b .features))
 
 one : (x y d : List ℕ) → empty (canon d) ≡ false
@@ -93,8 +93,8 @@ module _ (a b : List ℕ) (again-a : canon a ≡ a) (some-a : empty a ≡ false)
   compatible-rules = on-texts compatibleText compatible (compatible-canonical a b)
 
   pub same-rules : sameText a b ≡ idRules .sameMeaning a b
-  unfolding idRules sameText
-  same-rules = on-texts same sameMeaning (same-canonical a b)
+  unfolding idRules
+  same-rules = on-texts sameText sameMeaning (same-canonical a b)
 
   pub mixed-rules : mixedText a b ≡ idRules .mixed a b
   unfolding idRules

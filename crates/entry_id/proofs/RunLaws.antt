@@ -1,22 +1,22 @@
 -- Laws of runs and parts. Assumes nothing.
 use Prim.Native.Nat.{ℕ, suc, _+_, _-_, _≤_, _<_}
-use mathlib.Core.Path.{_≡_, sym, ap, _∙_}
+use mathlib.Core.Path.{_≡_, refl, sym, ap, _∙_, subst}
 use mathlib.Core.Logic.{inl, inr}
-use mathlib.Core.Bool.{Bool, true, false, not}
-use mathlib.Core.List.{List, [], _∷_, _++_}
+use mathlib.Core.Bool.{Bool, true, false, not, cond}
+use mathlib.Core.List.{List, [], _∷_, _++_, append-nil}
 use native.Mathlib.Omega.{arith}
-use lib.ListN.{length, getD, take, drop, length-take, length-drop, take-append-drop, List·getD-eq-default}
+use lib.ListN.{length, getD, take, drop, drop-of-length-le, length-take, length-drop, take-append-drop, List·getD-eq-default}
 use lib.Seq.{take-suc, take-all, drop-cons, drop-drop, getD-drop, length-take-le, take-add}
 use lib.Dec.{T, ltb}
-use borrow.Author.Tests.{ltb-true, ltb-false, lt-ltb, le-ltb}
+use borrow.Author.Tests.{eqb-true, eq-eqb, ltb-true, ltb-false, lt-ltb, le-ltb, not-false}
 use Rattle.wire.specs.Lists.{every}
 use Rattle.wire.specs.Bytes.{empty, bytes}
 use Rattle.entry_id.specs.Meaning.{namesProcessor}
-use Rattle.entry_id.specs.Text.{splitOn}
+use Rattle.entry_id.specs.Text.{splitOn, otherThan}
 use Rattle.wire.proofs.Bools.{and-t, of-true, cases}
-use Rattle.entry_id.proofs.TextLaws.{every-append}
+use Rattle.entry_id.proofs.TextLaws.{every-append, split-last, split-skip}
 use Rattle.wire.proofs.ByteLaws.{same-length}
-use Rattle.entry_id.specs.Scan.{part, piecesAt}
+use Rattle.entry_id.specs.Scan.{part, Run, piecesAt}
 
 -- ---- parts
 
@@ -69,6 +69,38 @@ module _ (p : ℕ → Bool) (x : List ℕ) (a : ℕ) where
   run-more i h k t e =
       rw (part-more x 0 a i h k)
       (every-append p (part x a i) (getD x i 0 ∷ []) t (and-t (p (getD x i 0)) true (of-true (p (getD x i 0)) e) tt))
+
+-- a run from the start of what follows a
+pub run-behind : (p : ℕ → Bool) (x : List ℕ) (a r : ℕ) → a ≤ length x → Run p (drop a x) 0 r → Run p x a (a + r)
+unfolding part
+run-behind p x a r h s =
+    let e : r - 0 ≡ a + r - a = omega arith in
+    record {
+      low = omega arith;
+      high = omega (arith, s .high, length-drop a x);
+      passed = subst (λ n. T (every p (take n (drop a x)))) e (s .passed);
+      stop = λ k. ap p (sym (getD-drop a x r 0)) ∙ s .stop (omega (arith, length-drop a x));
+    }
+
+-- a run of bytes other than c, from a up to r, is the first piece of the text from a on
+pub cut-run : (c : ℕ) (x : List ℕ) (a r : ℕ) → Run (otherThan c) x a r → splitOn c (drop a x) ≡ part x a r ∷ cond (ltb r (length x)) (splitOn c (drop (suc r) x)) []
+unfolding otherThan
+cut-run c x a r h =
+    let d = part-drop x a r (h .low) in
+    elim (cases (ltb r (length x))) [
+      | inl e ↦
+          let k = ltb-true r (length x) e in
+          let b : getD x r 0 ≡ c = eqb-true (getD x r 0) c (not-false _ (h .stop k)) in
+          ap (splitOn c) (d ∙ ap (λ z. part x a r ++ z) (drop-cons x r 0 k ∙ ap (λ b. b ∷ drop (suc r) x) b))
+          ∙ split-skip c (otherThan c) other (part x a r) (drop (suc r) x) (h .passed) ∙ ap (λ b. part x a r ∷ cond b (splitOn c (drop (suc r) x)) []) (sym e)
+      | inr e ↦
+          let k = ltb-false r (length x) e in
+          ap (splitOn c) (d ∙ ap (λ z. part x a r ++ z) (drop-of-length-le x k) ∙ append-nil (part x a r))
+          ∙ split-last c (otherThan c) other (part x a r) (h .passed) ∙ ap (λ b. part x a r ∷ cond b (splitOn c (drop (suc r) x)) []) (sym e)
+    ]
+  where
+    other : T (otherThan c c) → ⊥
+    other t = rw (eq-eqb c c refl) at t
 
 -- ---- bytes
 

@@ -33,7 +33,7 @@ sign-is false = refl
 apart : (x y : ℕ) → signByte x ≡ true → signByte y ≡ false → eqb x y ≡ false
 apart x y p q = is-false (eqb x y) (λ e. clash (signByte x) p (ap signByte (eqb→eq x y e) ∙ q))
 
-agree-self : (h s t : List ℕ) → agree sameButSign (h ++ s) (h ++ t) ≡ agree sameButSign s t
+pub agree-self : (h s t : List ℕ) → agree sameButSign (h ++ s) (h ++ t) ≡ agree sameButSign s t
 unfolding agree sameButSign
 agree-self [] s t = refl
 agree-self (x ∷ h) s t = rw (eq-eqb x x refl) (agree-self h s t)

@@ -36,6 +36,11 @@ module _ (c : ℕ) (p : ℕ → Bool) (no : T (p c) → ⊥) where
   split-skip [] r t = rw (is-true (eqb c c) (eqb-refl c))
   split-skip (x ∷ f) r t = rw (misses x (and-l (p x) (every p f) t), split-skip f r (and-r (p x) (every p f) t))
 
+  pub split-start : (f r q : List ℕ) (qs : List (List ℕ)) → T (every p f) → splitOn c r ≡ q ∷ qs → splitOn c (f ++ r) ≡ (f ++ q) ∷ qs
+  unfolding splitOn every onFirst
+  split-start [] r q qs t e = e
+  split-start (x ∷ f) r q qs t e = rw (misses x (and-l (p x) (every p f) t), split-start f r q qs (and-r (p x) (every p f) t) e)
+
   pub split-join : (f : List ℕ) (fs : List (List ℕ)) → T (every (every p) (f ∷ fs)) → splitOn c (joinWith c (f ∷ fs)) ≡ f ∷ fs
   unfolding joinWith every
   split-join f [] t = split-last f (and-l (every p f) true t)

@@ -15,5 +15,7 @@ pub record IdExamples : Type 0 where
   pub seven-fields : valid (bytes "hip-a-b-c-d-e-f") ≡ false
   pub stated-twice : valid (bytes "hip-a-b-c-gfx1:xnack+:xnack-") ≡ false
   pub unsigned : valid (bytes "hip-a-b-c-gfx1:xnack") ≡ false
+  -- "The canonical form keeps the kind as spelled"
+  pub kept-kind : canon (bytes "hipv4-a-b-c") ≡ bytes "hipv4-a-b-c--"
   pub other-kind : valid (bytes "cuda-a-b-c") ≡ false
   pub empty-vendor : valid (bytes "hip-a--c") ≡ false

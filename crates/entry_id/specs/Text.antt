@@ -20,6 +20,10 @@ joinWith c [] = []
 joinWith c (p ∷ []) = p
 joinWith c (p ∷ q ∷ ps) = p ++ c ∷ joinWith c (q ∷ ps)
 
+-- any byte but c
+unfoldable pub otherThan : ℕ → ℕ → Bool
+otherThan c b = not (eqb b c)
+
 -- any byte but a ':'
-unfoldable pub notColon : ℕ → Bool
-notColon b = not (eqb b 58)
+abbrev pub notColon : ℕ → Bool
+notColon = otherThan 58

@@ -2,15 +2,15 @@
 use Prim.Native.Nat.{ℕ, _≤_}
 use mathlib.Core.Path.{_≡_}
 use mathlib.Core.Logic.{_↔_}
-use mathlib.Core.Bool.{Bool, false, not, _&&_}
-use mathlib.Core.List.{List, [], map, List·Memᴰ}
+use mathlib.Core.Bool.{Bool, false, not, _&&_, _||_}
+use mathlib.Core.List.{List, [], _++_, map, List·Memᴰ}
 use lib.ListN.{length}
 use lib.Dec.{T}
 use Rattle.wire.specs.Lists.{any, every}
-use Rattle.wire.specs.Bytes.{same}
+use Rattle.wire.specs.Bytes.{bytes, same}
 use Rattle.wire.specs.Order.{risingBy, distinctBy}
 use Rattle.entry_id.specs.Meaning.{byName, Feature, Meaning, piecesOf, feature, meaning, valid, canon}
-use Rattle.entry_id.specs.Compare.{compatible, sameMeaning, mixed, sameNames}
+use Rattle.entry_id.specs.Compare.{comparedKind, comparedAs, compatible, sameMeaning, mixed, sameNames}
 use Rattle.entry_id.specs.Canonical.{compatibleText, sameText, mixedText}
 
 -- a feature of this name is among them
@@ -30,14 +30,32 @@ pub record EntryIds : Type 0 where
   -- the meaning's features are exactly those that the text states, and of an ID each name once
   pub features-stated : (x : List ℕ) (f : Feature) → List·Memᴰ f (meaning x .features) ↔ List·Memᴰ f (map feature (piecesOf x))
   pub stated-once : (x : List ℕ) → risingBy byName (meaning x .features) ≡ distinctBy byName (map feature (piecesOf x))
-  -- two IDs have the same meaning by the test exactly when their meanings are equal
-  pub same-is-equal : (a b : Meaning) → T (sameMeaning a b) ↔ (a ≡ b)
+  -- two IDs have the same meaning by the test exactly when their meanings are compared as the same
+  pub same-is-equal : (a b : Meaning) → T (sameMeaning a b) ↔ (comparedAs a ≡ comparedAs b)
   -- of features in order: the same names one after the other exactly when each has the names of the other
   pub same-names : (a b : List Feature) → T (risingBy byName a) → T (risingBy byName b) → sameNames a b ≡ (every (λ f. nameIn f b) a && every (λ g. nameIn g a) b)
   -- of two entries that are not mixed and have different meanings, no device name is compatible with both
   pub one-compatible : (x y d : List ℕ) → T (valid d) → T (compatible (meaning x) (meaning d)) → T (compatible (meaning y) (meaning d))
-      → T (not (mixed (meaning x) (meaning y))) → meaning x ≡ meaning y
+      → T (not (mixed (meaning x) (meaning y))) → comparedAs (meaning x) ≡ comparedAs (meaning y)
   -- the three tests depend on meanings alone: on canonical forms the tests on texts are those on meanings
   pub compatible-text : (e d : List ℕ) → T (valid e) → T (valid d) → compatibleText (canon e) (canon d) ≡ compatible (meaning e) (meaning d)
   pub same-text : (a b : List ℕ) → T (valid a) → T (valid b) → sameText (canon a) (canon b) ≡ sameMeaning (meaning a) (meaning b)
   pub mixed-text : (a b : List ℕ) → T (valid a) → T (valid b) → mixedText (canon a) (canon b) ≡ mixed (meaning a) (meaning b)
+
+-- the two spellings of one kind
+unfoldable pub hipKind : List ℕ → Bool
+hipKind k = same k (bytes "hip") || same k (bytes "hipv4")
+
+-- "hip and hipv4 are one thing now."
+pub record OneKind : Type 0 where
+  -- kinds are compared as one exactly when they are the same or are these two
+  pub apart : (j k : List ℕ) → same (comparedKind j) (comparedKind k) ≡ (same j k || (hipKind j && hipKind k))
+  -- "both spellings of one entry": any text behind either has the same meaning
+  pub twice : (t : List ℕ) → T (sameMeaning (meaning (bytes "hip-" ++ t)) (meaning (bytes "hipv4-" ++ t)))
+  -- no test sees which of the two a text begins with
+  pub entry-either : (t : List ℕ) (d : Meaning) → compatible (meaning (bytes "hip-" ++ t)) d ≡ compatible (meaning (bytes "hipv4-" ++ t)) d
+  pub device-either : (e : Meaning) (t : List ℕ) → compatible e (meaning (bytes "hip-" ++ t)) ≡ compatible e (meaning (bytes "hipv4-" ++ t))
+  pub same-either : (t : List ℕ) (b : Meaning) → sameMeaning (meaning (bytes "hip-" ++ t)) b ≡ sameMeaning (meaning (bytes "hipv4-" ++ t)) b
+  pub mixed-either : (t : List ℕ) (b : Meaning) → mixed (meaning (bytes "hip-" ++ t)) b ≡ mixed (meaning (bytes "hipv4-" ++ t)) b
+  -- "The canonical form keeps the kind as spelled": those of the two spellings are different
+  pub kept : (t u : List ℕ) → T (valid (bytes "hip-" ++ t)) → T (valid (bytes "hipv4-" ++ u)) → canon (bytes "hip-" ++ t) ≡ canon (bytes "hipv4-" ++ u) → ⊥

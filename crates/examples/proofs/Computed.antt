@@ -9,10 +9,11 @@ use Rattle.wire.specs.Stop.{_⨾_, stopWhen, stopIf, stopAt, earlier}
 use Rattle.entry_id.specs.Text.{onFirst, splitOn, joinWith}
 use Rattle.entry_id.specs.Meaning.{fieldsOf, piecesOf, namesProcessor, fifthIsProcessor, feature, meaningOf, meaning, sign, piece, sixFields, canonicalOf}
 use Rattle.entry_id.specs.Meaning.{nameByte, fieldByte, kinds, signed, named, shaped, proper, valid, canon}
-use Rattle.entry_id.specs.Compare.{sameTarget, sameFeature, compatible, sameNames, sameMeaning, mixed}
+use Rattle.entry_id.specs.Compare.{comparedKind, comparedAs, sameTarget, sameFeature, compatible, sameNames, sameMeaning, mixed}
 use Rattle.entry_id.specs.Rules.{idRules}
 use Rattle.bundle.specs.Table.{magic, count, rowStart, rowAt, row, tableEnd}
 use Rattle.bundle.specs.Check.{badRow, outside, headStop, tableStop, unrefused, badId, meanSame, mix, rowsStop, bundleStop, check}
+use Rattle.bundle.specs.Pick.{compatibleAt, chosen, pickStop, pick}
 use Rattle.bundle.specs.Entry.{imageOf, entryOf, entriesOf}
 use Rattle.bundle.specs.Layout.{rowBytes, table, bundle, packedEnd, packedLength, images, packed, encode}
 use Rattle.bundle.specs.Normal.{normal, normalLength}
@@ -23,7 +24,7 @@ use Rattle.offload_binary.specs.Reader as reader
 use Rattle.examples.specs.Examples.{Examples}
 
 pub examples : Examples
-unfolding empty same before every any agree total insertBy sortBy risingBy bytesOf wordOf word first anyBelow _⨾_ stopWhen stopIf stopAt earlier onFirst splitOn joinWith fieldsOf piecesOf namesProcessor fifthIsProcessor feature meaningOf meaning sign piece sixFields canonicalOf nameByte fieldByte kinds signed named shaped proper valid canon sameTarget sameFeature compatible sameNames sameMeaning mixed idRules magic count rowStart rowAt row tableEnd badRow outside headStop tableStop unrefused badId meanSame mix rowsStop bundleStop check tab imageOf entryOf entriesOf rowBytes table bundle packedEnd packedLength images packed encode normal normalLength lists.slots binary.bytesAt binary.run binary.ended binary.sizeOf binary.entryAt binary.own binary.entryOf binary.keyAt binary.textAt binary.stringAt binary.pair binary.key binary.badHead binary.badSpan binary.badKinds binary.badTable binary.badString binary.badPair binary.badStrings binary.badImage binary.bodyStop binary.binaryStop binary.handsBack binary.binary binary.binaryAt contents.fieldBytes contents.texts contents.stringBytes contents.offsets contents.up8 contents.zeros contents.stringsStart contents.stringsEnd contents.imageStart contents.imageEnd contents.binarySize contents.headFields contents.written reader.nextStop reader.next reader.cursorAfter reader.answer
+unfolding empty same before every any agree total insertBy sortBy risingBy bytesOf wordOf word first anyBelow _⨾_ stopWhen stopIf stopAt earlier onFirst splitOn joinWith fieldsOf piecesOf namesProcessor fifthIsProcessor feature meaningOf meaning sign piece sixFields canonicalOf nameByte fieldByte kinds signed named shaped proper valid canon comparedKind comparedAs sameTarget sameFeature compatible sameNames sameMeaning mixed idRules magic count rowStart rowAt row tableEnd badRow outside headStop tableStop unrefused badId meanSame mix rowsStop bundleStop check compatibleAt chosen pickStop pick tab imageOf entryOf entriesOf rowBytes table bundle packedEnd packedLength images packed encode normal normalLength lists.slots binary.bytesAt binary.run binary.ended binary.sizeOf binary.entryAt binary.own binary.entryOf binary.keyAt binary.textAt binary.stringAt binary.pair binary.key binary.badHead binary.badSpan binary.badKinds binary.badTable binary.badString binary.badPair binary.badStrings binary.badImage binary.bodyStop binary.binaryStop binary.handsBack binary.binary binary.binaryAt contents.fieldBytes contents.texts contents.stringBytes contents.offsets contents.up8 contents.zeros contents.stringsStart contents.stringsEnd contents.imageStart contents.imageEnd contents.binarySize contents.headFields contents.written reader.nextStop reader.next reader.cursorAfter reader.answer
 examples = record {
   empty-bundle = refl;
   empty-binaries = refl;
@@ -41,6 +42,16 @@ examples = record {
   unstated = refl;
   other-names = refl;
   two-spellings = refl;
+  kinds-twice = refl;
+  kinds-twice-turned = refl;
+  kinds-mixed = refl;
+  kinds-mixed-turned = refl;
+  kinds-signs = refl;
+  picks-hip = refl;
+  picks-hipv4 = refl;
+  kinds-apart = refl;
+  picks-none = refl;
+  normals-apart = refl;
   at-end = refl;
   past-end = refl;
   bare-size = refl;

@@ -1,16 +1,17 @@
--- The examples that are marked * in RULES B, B.1 to B.10: one table under one claim. Statements only.
-use Prim.Native.Nat.{ℕ}
+-- The examples that are marked * in RULES B, B.1 to B.10 and B.16: one table under one claim. Statements only.
+use Prim.Native.Nat.{ℕ, _+_}
 use mathlib.Core.Path.{_≡_}
 use mathlib.Core.Bool.{true, false}
 use mathlib.Core.List.{List, [], _∷_, _++_}
 use lib.ListN.{length, replicate}
-use Rattle.wire.specs.Bytes.{bytes}
+use Rattle.wire.specs.Bytes.{bytes, same}
 use Rattle.wire.specs.Word.{bytesOf}
 use Rattle.entry_id.specs.Meaning.{meaning, canon}
 use Rattle.entry_id.specs.Compare.{compatible}
 use Rattle.entry_id.specs.Rules.{idRules}
 use Rattle.bundle.specs.Table.{magic, tableEnd}
 use Rattle.bundle.specs.Check.{check}
+use Rattle.bundle.specs.Pick.{pick}
 use Rattle.bundle.specs.Layout.{bundle}
 use Rattle.bundle.specs.Normal.{normal, normalLength}
 use Rattle.offload_binary.specs.Binary.{refused, binaryAt}
@@ -25,6 +26,20 @@ host = bytes "host-x86_64-unknown-linux-gnu-"
 abbrev pub gfx906 : List ℕ
 gfx906 = bytes "hip-amdgcn-amd-amdhsa-gfx906"
 
+-- the same target with the other spelling of its kind, and with another kind
+abbrev pub hipv4 : List ℕ
+hipv4 = bytes "hipv4-amdgcn-amd-amdhsa-gfx906"
+
+abbrev pub openmp : List ℕ
+openmp = bytes "openmp-amdgcn-amd-amdhsa-gfx906"
+
+-- with the feature xnack, on and off
+abbrev pub on : List ℕ → List ℕ
+on x = x ++ bytes ":xnack+"
+
+abbrev pub off : List ℕ → List ℕ
+off x = x ++ bytes ":xnack-"
+
 -- "Magic and eight zero bytes"
 abbrev pub noEntries : List ℕ
 noEntries = magic ++ replicate 8 0
@@ -36,6 +51,13 @@ oneHost size body = bundle (record { offset = 86; size = size; id = host } ∷ [
 -- two entries with empty images at the end of the container, which is the end of the table
 abbrev pub twoAt : ℕ → List ℕ → List ℕ → List ℕ
 twoAt end x y = bundle (record { offset = end; size = 0; id = x } ∷ record { offset = end; size = 0; id = y } ∷ []) []
+
+abbrev pub two : List ℕ → List ℕ → List ℕ
+two x y = twoAt (80 + length x + length y) x y
+
+-- one entry with an image of five bytes
+abbrev pub one : List ℕ → List ℕ
+one x = bundle (record { offset = 56 + length x; size = 5; id = x } ∷ []) (bytes "image")
 
 abbrev pub bare : Contents
 bare = record { imageKind = 0; offloadKind = 0; flags = 0; image = []; strings = [] }
@@ -71,6 +93,21 @@ pub record Examples : Type 0 where
   pub other-names : check idRules (twoAt 143 gfx906 (gfx906 ++ bytes ":xnack+")) ≡ record { number = 8; place = 1; count = 0 }
   -- "The two `gfx906` spellings of the fourth piece together: TWICE."
   pub two-spellings : check idRules (twoAt 169 (bytes "hip-amdgcn-amd-amdhsa-gfx906:xnack+:sramecc-") (bytes "hip-amdgcn-amd-amdhsa--gfx906:sramecc-:xnack+")) ≡ record { number = 7; place = 1; count = 0 }
+  -- "a bundle with both spellings of one entry is refused by 7": at the second, whichever comes first
+  pub kinds-twice : check idRules (two gfx906 hipv4) ≡ record { number = 7; place = 1; count = 0 }
+  pub kinds-twice-turned : check idRules (two hipv4 gfx906) ≡ record { number = 7; place = 1; count = 0 }
+  -- TWICE and MIXED "treat them as equal": other feature names across the spellings are MIXED, the same names with other signs are neither
+  pub kinds-mixed : check idRules (two gfx906 (on hipv4)) ≡ record { number = 8; place = 1; count = 0 }
+  pub kinds-mixed-turned : check idRules (two (on hipv4) gfx906) ≡ record { number = 8; place = 1; count = 0 }
+  pub kinds-signs : check idRules (two (on gfx906) (off hipv4)) ≡ record { number = 0; place = 0; count = 2 }
+  -- "compatibility treats them as equal": a device name with either spelling picks an entry with the other
+  pub picks-hip : pick idRules (two (on gfx906) (off hipv4)) (on hipv4) ≡ record { number = 0; place = 0; index = 0; position = 152; size = 0 }
+  pub picks-hipv4 : pick idRules (two openmp hipv4) gfx906 ≡ record { number = 0; place = 0; index = 1; position = 141; size = 0 }
+  -- any other two kinds differ
+  pub kinds-apart : check idRules (two openmp hipv4) ≡ record { number = 0; place = 0; count = 2 }
+  pub picks-none : pick idRules (one openmp) hipv4 ≡ record { number = 10; place = 0; index = 0; position = 0; size = 0 }
+  -- "demand 3 still counts the two spellings as different entries": bundles that differ in the spelling alone have different normal forms
+  pub normals-apart : same (normal idRules (one gfx906)) (normal idRules (one hipv4)) ≡ false
   -- "Offset equal to the length with size 0: accepted. Size 1 there: RANGE."
   pub at-end : check idRules (oneHost 0 []) ≡ record { number = 0; place = 0; count = 1 }
   pub past-end : check idRules (oneHost 1 []) ≡ record { number = 6; place = 0; count = 0 }

@@ -58,7 +58,24 @@ const ANY_XNACK: EntryRecord = EntryRecord {
     image_len: 0,
 };
 
-// What the bundle writer makes of them, with images "abc" and "cd".
+// Both spellings of one kind, for one target.
+const KINDS: [u8; 58] = *b"hip-amdgcn-amd-amdhsa-gfx906hipv4-amdgcn-amd-amdhsa-gfx906";
+
+const HIP: EntryRecord = EntryRecord {
+    id_start: 0,
+    id_len: 28,
+    image_start: 0,
+    image_len: 0,
+};
+
+const HIPV4: EntryRecord = EntryRecord {
+    id_start: 28,
+    id_len: 30,
+    image_start: 0,
+    image_len: 0,
+};
+
+// What the bundle writer makes of two cards, with images "abc" and "cd".
 const CARDS_BUNDLE: [u8; 157] = *b"__CLANG_OFFLOAD_BUNDLE__\x02\0\0\0\0\0\0\0\
     \x98\0\0\0\0\0\0\0\x03\0\0\0\0\0\0\0\x24\0\0\0\0\0\0\0hip-amdgcn-amd-amdhsa--gfx906:xnack-\
     \x9b\0\0\0\0\0\0\0\x02\0\0\0\0\0\0\0\x24\0\0\0\0\0\0\0hip-amdgcn-amd-amdhsa--gfx906:xnack+\
@@ -181,8 +198,9 @@ pub(crate) fn no_entries() {
     expect_bundle(FIRST, FIRST, &CARDS, b"abcd", &mut [b'.'; 1], 7, 1, 0, b".");
 }
 
-// MIXED.
+// TWICE across the spellings; MIXED.
 pub(crate) fn no_bundle() {
+    expect_bundle(HIP, HIPV4, &KINDS, b"", &mut [b'.'; 1], 7, 1, 0, b".");
     expect_bundle(
         FIRST,
         ANY_XNACK,

@@ -36,6 +36,12 @@ const TWO_CARDS_NORMAL: [u8; 157] = *b"__CLANG_OFFLOAD_BUNDLE__\x02\0\0\0\0\0\0\
     \x9a\0\0\0\0\0\0\0\x03\0\0\0\0\0\0\0\x24\0\0\0\0\0\0\0hip-amdgcn-amd-amdhsa--gfx906:xnack-\
     cdabc";
 
+// Two kinds for one target, in falling order.
+const TWO_KINDS: [u8; 145] = *b"__CLANG_OFFLOAD_BUNDLE__\x02\0\0\0\0\0\0\0\
+    \x8d\0\0\0\0\0\0\0\x02\0\0\0\0\0\0\0\x1f\0\0\0\0\0\0\0openmp-amdgcn-amd-amdhsa-gfx906\
+    \x8f\0\0\0\0\0\0\0\x02\0\0\0\0\0\0\0\x1e\0\0\0\0\0\0\0hipv4-amdgcn-amd-amdhsa-gfx906\
+    abcd";
+
 fn expect_check(bundle: &[u8], number: usize, place: usize, count: usize)
     requires { ⌜ check idRules (now bundle) ≡ record { number = number; place = place; count = count } ⌝ }
 {
@@ -131,6 +137,27 @@ pub(crate) fn meanings() {
     expect_check(&TWO_CARDS_NORMAL, 0, 0, 2);
 }
 
+// hip and hipv4 are one kind: TWICE and MIXED across the two; openmp is another.
+pub(crate) fn kinds() {
+    expect_check(
+        b"__CLANG_OFFLOAD_BUNDLE__\x02\0\0\0\0\0\0\0\
+        \x8a\0\0\0\0\0\0\0\0\0\0\0\0\0\0\0\x1c\0\0\0\0\0\0\0hip-amdgcn-amd-amdhsa-gfx906\
+        \x8a\0\0\0\0\0\0\0\0\0\0\0\0\0\0\0\x1e\0\0\0\0\0\0\0hipv4-amdgcn-amd-amdhsa-gfx906",
+        7,
+        1,
+        0,
+    );
+    expect_check(
+        b"__CLANG_OFFLOAD_BUNDLE__\x02\0\0\0\0\0\0\0\
+        \x91\0\0\0\0\0\0\0\0\0\0\0\0\0\0\0\x1e\0\0\0\0\0\0\0hipv4-amdgcn-amd-amdhsa-gfx906\
+        \x91\0\0\0\0\0\0\0\0\0\0\0\0\0\0\0\x23\0\0\0\0\0\0\0hip-amdgcn-amd-amdhsa-gfx906:xnack+",
+        8,
+        1,
+        0,
+    );
+    expect_check(&TWO_KINDS, 0, 0, 2);
+}
+
 fn expect_pick(
     bundle: &[u8],
     device: &[u8],
@@ -208,10 +235,23 @@ pub(crate) fn not_found() {
     );
     // a feature that the device does not state fits no sign
     expect_pick(&TWO_CARDS, b"hip-amdgcn-amd-amdhsa-gfx906", 10, 0, 0, 0, 0);
-    // kinds are equal or not
+}
+
+// Either spelling of a kind picks the other; another kind picks nothing.
+pub(crate) fn kinds_picked() {
     expect_pick(
         &TWO_CARDS,
         b"hipv4-amdgcn-amd-amdhsa-gfx906:xnack-",
+        0,
+        0,
+        0,
+        154,
+        3,
+    );
+    expect_pick(&TWO_KINDS, b"hip-amdgcn-amd-amdhsa-gfx906", 0, 0, 1, 143, 2);
+    expect_pick(
+        &TWO_CARDS,
+        b"openmp-amdgcn-amd-amdhsa-gfx906:xnack-",
         10,
         0,
         0,
@@ -318,5 +358,20 @@ pub(crate) fn cards_again() {
         0,
         157,
         &TWO_CARDS_NORMAL,
+    );
+}
+
+// The kind stays as it is spelled.
+pub(crate) fn kinds_normal() {
+    expect_normalise(
+        &TWO_KINDS,
+        &mut [b'.'; 147],
+        0,
+        0,
+        147,
+        b"__CLANG_OFFLOAD_BUNDLE__\x02\0\0\0\0\0\0\0\
+        \x8f\0\0\0\0\0\0\0\x02\0\0\0\0\0\0\0\x1f\0\0\0\0\0\0\0hipv4-amdgcn-amd-amdhsa--gfx906\
+        \x91\0\0\0\0\0\0\0\x02\0\0\0\0\0\0\0\x20\0\0\0\0\0\0\0openmp-amdgcn-amd-amdhsa--gfx906\
+        cdab",
     );
 }

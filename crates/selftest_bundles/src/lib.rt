@@ -9,10 +9,12 @@ pub fn run() {
     bundles::tables();
     bundles::ranges();
     bundles::meanings();
+    bundles::kinds();
     bundles::picks();
     bundles::more_picks();
     bundles::not_asked();
     bundles::not_found();
+    bundles::kinds_picked();
     bundles::entries();
     bundles::no_entries();
     bundles::no_entries_normal();
@@ -20,6 +22,7 @@ pub fn run() {
     bundles::normal_again();
     bundles::cards_normal();
     bundles::cards_again();
+    bundles::kinds_normal();
     bundle_writer::written();
     bundle_writer::written_before();
     bundle_writer::no_room();

@@ -6,8 +6,8 @@ use Rattle.wire.specs.Lists.{every, any, agree}
 use Rattle.wire.specs.Order.{insertBy, sortBy, risingBy}
 use Rattle.entry_id.specs.Text.{onFirst, splitOn, joinWith}
 use Rattle.entry_id.specs.Meaning.{fieldsOf, piecesOf, namesProcessor, fifthIsProcessor, feature, meaningOf, meaning, sign, piece, sixFields, canonicalOf, nameByte, fieldByte, kinds, signed, named, shaped, proper, valid, canon}
-use Rattle.entry_id.specs.Canonical.{canonicalIn, headOf, within, signByte, sameButSign, compatibleText, sameText, mixedText}
-use Rattle.entry_id.specs.Compare.{sameTarget, sameFeature, compatible, sameNames, sameMeaning, mixed}
+use Rattle.entry_id.specs.Canonical.{canonicalIn, headOf, kindPart, afterKind, within, signByte, sameButSign, compatibleSpelled, mixedSpelled, ofOneKind, compatibleText, sameText, mixedText}
+use Rattle.entry_id.specs.Compare.{comparedKind, comparedAs, sameTarget, sameFeature, compatible, sameNames, sameMeaning, mixed}
 use Rattle.entry_id.specs.Rules.{idRules}
 
 -- words, comparisons and copies of bytes
@@ -17,5 +17,5 @@ words = tt
 
 -- entry IDs
 unfoldable pub ids : Unit {0}
-unfolding words empty every any agree insertBy sortBy risingBy onFirst splitOn joinWith fieldsOf piecesOf namesProcessor fifthIsProcessor feature meaningOf meaning sign piece sixFields canonicalOf nameByte fieldByte kinds signed named shaped proper valid canon canonicalIn headOf within signByte sameButSign compatibleText sameText mixedText sameTarget sameFeature compatible sameNames sameMeaning mixed idRules
+unfolding words empty every any agree insertBy sortBy risingBy onFirst splitOn joinWith fieldsOf piecesOf namesProcessor fifthIsProcessor feature meaningOf meaning sign piece sixFields canonicalOf nameByte fieldByte kinds signed named shaped proper valid canon canonicalIn headOf kindPart afterKind within signByte sameButSign compatibleSpelled mixedSpelled ofOneKind compatibleText sameText mixedText comparedKind comparedAs sameTarget sameFeature compatible sameNames sameMeaning mixed idRules
 ids = tt

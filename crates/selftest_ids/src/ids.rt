@@ -97,7 +97,7 @@ pub(crate) fn standings() {
     );
 }
 
-// Other signs; equal texts; "kinds are equal or not".
+// Other signs; equal texts.
 pub(crate) fn more_standings() {
     expect_standing(
         b"hip-amdgcn-amd-amdhsa--gfx906:xnack-",
@@ -113,10 +113,45 @@ pub(crate) fn more_standings() {
         true,
         false,
     );
-    // "kinds are equal or not"
+}
+
+// "hip and hipv4 are one thing": the same meaning; other signs; other feature names.
+pub(crate) fn one_kind() {
     expect_standing(
         b"hip-a-b-c--gfx906",
         b"hipv4-a-b-c--gfx906",
+        true,
+        true,
+        false,
+    );
+    expect_standing(
+        b"hipv4-a-b-c--gfx906:xnack-",
+        b"hip-a-b-c--gfx906:xnack+",
+        false,
+        false,
+        false,
+    );
+    expect_standing(
+        b"hipv4-a-b-c--gfx906",
+        b"hip-a-b-c--gfx906:xnack+",
+        true,
+        false,
+        true,
+    );
+}
+
+// Other kinds are equal or not.
+pub(crate) fn other_kinds() {
+    expect_standing(
+        b"hip-a-b-c--gfx906",
+        b"openmp-a-b-c--gfx906",
+        false,
+        false,
+        false,
+    );
+    expect_standing(
+        b"hipv4-a-b-c--gfx906",
+        b"host-a-b-c--gfx906",
         false,
         false,
         false,

@@ -18,4 +18,6 @@ pub fn run() {
     ids::no_kinds();
     ids::standings();
     ids::more_standings();
+    ids::one_kind();
+    ids::other_kinds();
 }

@@ -1,10 +1,10 @@
 //! Bundles with a device name, an index and a length for the lent output.
 
 use super::ids::{self, IdMaker, Meaning, BROKEN, EDGES};
+use super::pairs::{self, Pair};
 use super::random::Random;
 use super::{Aim, Room, LIMIT};
 use crate::model::bundle::MAGIC_BYTES;
-use crate::model::id::{Sign, Text};
 use crate::model::*;
 use crate::samples;
 
@@ -103,6 +103,7 @@ impl Draft {
         }
         let entry = random.choose(&self.rows);
         let device = ids::with_more_features(random, &entry.meaning);
+        let device = ids::either_spelling(random, device);
         ids::spelled(random, &device)
     }
 
@@ -167,8 +168,16 @@ impl Draft {
     }
 
     fn put_meaning(&mut self, random: &mut Random, meaning: Meaning) -> usize {
-        let row = Row::new(random, meaning, Offset::AfterTable(0), 0);
+        let (start, size) = any_span(random, self.body.len());
+        let row = Row::new(random, meaning, Offset::AfterTable(start as u64), size as u64);
         self.put_row(random, row)
+    }
+
+    fn put_pair(&mut self, random: &mut Random, pair: [Meaning; 2]) {
+        self.rows.truncate(60);
+        for meaning in pair {
+            self.put_meaning(random, meaning);
+        }
     }
 
     /// An entry at the limits, with this ID as spelled; its meaning is there once.
@@ -505,7 +514,7 @@ fn at_limit(draft: &mut Draft, random: &mut Random, size: u64) {
 
 /// 7 and 8, and neighbours of them that are accepted.
 fn composition_aims() -> Vec<BundleAim> {
-    vec![
+    let mut aims = vec![
         check(TWICE, "a meaning twice", |draft, random| {
             let at = draft.some_row(random);
             let meaning = draft.rows[at].meaning.clone();
@@ -516,62 +525,17 @@ fn composition_aims() -> Vec<BundleAim> {
             let row = draft.rows[at].clone();
             draft.put_row(random, row);
         }),
-        check(MIXED, "a feature more", |draft, random| {
-            beside(draft, random, |meaning, random| {
-                meaning.features.insert(b"only_here"[..].into(), *random.choose(&[Sign::On, Sign::Off]));
-            })
-        }),
-        check(MIXED, "a feature less", |draft, random| {
-            beside(draft, random, |meaning, _| ids::drop_first_feature(meaning))
-        }),
-        check(MIXED, "another feature", |draft, random| {
-            beside(draft, random, |meaning, _| {
-                ids::drop_last_feature(meaning);
-                meaning.features.insert(b"only_here"[..].into(), Sign::On);
-            })
-        }),
-        check(OK, "another sign", |draft, random| {
-            beside(draft, random, |meaning, _| {
-                let sign = meaning.features.values_mut().next().expect("a feature");
-                *sign = ids::other_sign(*sign);
-            })
-        }),
-        check(OK, "hip beside hipv4", |draft, random| {
-            beside(draft, random, |meaning, _| {
-                meaning.kind = other_hip(meaning);
-            })
-        }),
-        check(OK, "another processor", |draft, random| {
-            beside(draft, random, |meaning, random| {
-                meaning.processor.as_mut().expect("a processor").to_mut().push(*random.choose(b"abc_."));
-                ids::drop_first_feature(meaning);
-            })
-        }),
-    ]
+    ];
+    aims.extend(pairs::entries().into_iter().map(stand_together));
+    aims
 }
 
-/// `hipv4` beside `hip`, `hip` beside any other kind.
-fn other_hip(meaning: &Meaning) -> Text<'static> {
-    let other: &[u8] = if meaning.kind == &b"hip"[..] { b"hipv4" } else { b"hip" };
-    other.into()
-}
-
-/// Puts an entry with one to four features into the bundle, and beside it what a change makes of it.
-fn beside(draft: &mut Draft, random: &mut Random, change: fn(&mut Meaning, &mut Random)) {
-    draft.rows.truncate(60);
-    let mut one = entry_with_features(random);
-    let mut other = one.clone();
-    change(&mut other, random);
-    if random.one_in(2) {
-        std::mem::swap(&mut one, &mut other);
-    }
-    draft.put_meaning(random, one);
-    draft.put_meaning(random, other);
-}
-
-fn entry_with_features(random: &mut Random) -> Meaning {
-    let count = random.between(1, 4);
-    ids::with_feature_count(random, count)
+/// The two entries stand in the bundle.
+fn stand_together(pair: Pair) -> BundleAim {
+    Aim::new("check", pair.number, &pair.name, move |draft: &mut Draft, random| {
+        let pair = (pair.make)(random);
+        draft.put_pair(random, pair);
+    })
 }
 
 /// 9 and 10, and device names that get an image.
@@ -585,7 +549,7 @@ fn device_aims() -> Vec<BundleAim> {
             let at = draft.some_row(random);
             draft.device = ids::spelled(random, &draft.rows[at].meaning);
         }),
-        pick(OK, "device: more features", |draft, random| {
+        pick(OK, "device: an entry's meaning and more features", |draft, random| {
             let at = draft.some_row(random);
             let device = ids::with_more_features(random, &draft.rows[at].meaning);
             draft.device = ids::spelled(random, &device);
@@ -602,42 +566,21 @@ fn device_aims() -> Vec<BundleAim> {
             let at = random.between(0, draft.device.len());
             draft.device.insert(at, *random.choose(b"-:+. /\0\xff"));
         }),
-        asks(NONE, "device: another sign", |device, _| {
-            let sign = device.features.values_mut().next().expect("a feature");
-            *sign = ids::other_sign(*sign);
-        }),
-        asks(NONE, "device: a feature less", |device, _| ids::drop_last_feature(device)),
-        asks(NONE, "device: no feature", |device, _| device.features.clear()),
-        asks(NONE, "device: another kind", |device, _| {
-            device.kind = other_hip(device);
-        }),
-        asks(NONE, "device: another arch", |device, _| device.arch.to_mut().push(b'x')),
-        asks(NONE, "device: another vendor", |device, _| device.vendor.to_mut().push(b'x')),
-        asks(NONE, "device: another system", |device, _| device.system.to_mut().push(b'x')),
-        asks(NONE, "device: another environment", |device, _| device.environment.to_mut().push(b'x')),
-        asks(NONE, "device: another processor", |device, _| {
-            device.processor.as_mut().expect("one").to_mut().push(b'x')
-        }),
-        asks(NONE, "device: no processor", |device, _| {
-            device.processor = None;
-            device.features.clear();
-        }),
         pick(NONE, "device: an environment as processor", |draft, random| {
             draft.put_id(random, b"hip-a-b-c-gfxenv-".to_vec());
             draft.device = b"hip-a-b-c-gfxenv".to_vec();
         }),
     ];
+    aims.extend(pairs::devices().into_iter().map(asks));
     aims.extend(EDGES.iter().map(device_at_edge));
     aims.extend(BROKEN.iter().map(broken_device));
     aims
 }
 
-/// The device name is what a change makes of the meaning of an entry with features.
-fn asks(number: u64, name: &str, change: fn(&mut Meaning, &mut Random)) -> BundleAim {
-    Aim::new("pick", number, name, move |draft: &mut Draft, random| {
-        let entry = entry_with_features(random);
-        let mut device = entry.clone();
-        change(&mut device, random);
+/// The first is an entry, and the second the device name.
+fn asks(pair: Pair) -> BundleAim {
+    Aim::new("pick", pair.number, &format!("device: {}", pair.name), move |draft: &mut Draft, random| {
+        let [entry, device] = (pair.make)(random);
         draft.put_meaning(random, entry);
         draft.device = ids::spelled(random, &device);
     })
@@ -711,6 +654,11 @@ fn normal_form_aims() -> Vec<BundleAim> {
             draft.room = Room::Exact;
         })
         .large(),
+        normalise(OK, "hip before hipv4", |draft, random| {
+            let pair = pairs::ordered_by_kind(random);
+            draft.put_pair(random, pair);
+            draft.room = Room::Exact;
+        }),
         normalise(ROOM, "room 1 byte short", |draft, _| draft.room = Room::Short(1)),
         normalise(ROOM, "no room", |draft, _| draft.room = Room::Nothing),
         normalise(ROOM, "normal form of the size limit", |draft, random| normal_length(draft, random, LIMIT)),

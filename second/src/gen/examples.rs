@@ -1,4 +1,4 @@
-//! The examples of RULES B, B.1 to B.13, as cases. `model/examples.rs` says what comes of them.
+//! The examples of RULES B, B.1 to B.13 and B.16, as cases. `model/examples.rs` says what comes of them.
 
 use super::{binaries, bundles, Room};
 use crate::model::binary_writer::{write_binary, Content, PairParts};
@@ -37,6 +37,10 @@ pub const PLAIN: &str = "hip-amdgcn-amd-amdhsa-gfx906";
 pub const BOTH_STATED: &str = "hip-amdgcn-amd-amdhsa-gfx906:sramecc+:xnack-";
 pub const XNACK_OFF: &str = "hip-amdgcn-amd-amdhsa-gfx906:xnack-";
 pub const XNACK_ON: &str = "hip-amdgcn-amd-amdhsa-gfx906:xnack+";
+pub const PLAIN_V4: &str = "hipv4-amdgcn-amd-amdhsa-gfx906";
+pub const XNACK_OFF_V4: &str = "hipv4-amdgcn-amd-amdhsa-gfx906:xnack-";
+pub const XNACK_ON_V4: &str = "hipv4-amdgcn-amd-amdhsa-gfx906:xnack+";
+pub const PLAIN_OPENMP: &str = "openmp-amdgcn-amd-amdhsa-gfx906";
 pub const NO_PROCESSOR: &str = "hip-a-b-c-d-:xnack+";
 
 pub fn bundle_cases() -> Vec<bundles::Case> {
@@ -64,6 +68,17 @@ pub fn bundle_cases() -> Vec<bundles::Case> {
         case(with_field(bundle(&[(PLAIN, b"123")]), 48, u64::MAX), PLAIN),
         case(bundle(&[(NO_PROCESSOR, b"")]), PLAIN),
         case(bundle(&[(PLAIN, b"")]), NO_PROCESSOR),
+        case(bundle(&[(PLAIN, b""), (PLAIN_V4, b"")]), PLAIN),
+        case(bundle(&[(PLAIN_V4, b""), (PLAIN, b"")]), PLAIN),
+        case(bundle(&[(PLAIN, b""), (XNACK_ON_V4, b"")]), PLAIN),
+        case(bundle(&[(XNACK_ON_V4, b""), (PLAIN, b"")]), PLAIN),
+        case(bundle(&[(XNACK_ON, b"on"), (XNACK_OFF_V4, b"off")]), XNACK_ON_V4),
+        case(bundle(&[(XNACK_ON_V4, b"on"), (XNACK_OFF, b"off")]), XNACK_OFF_V4),
+        case(bundle(&[(XNACK_ON, b"on")]), XNACK_ON_V4),
+        case(bundle(&[(XNACK_ON_V4, b"on")]), XNACK_ON),
+        case(bundle(&[(XNACK_ON_V4, b"on")]), XNACK_OFF),
+        case(bundle(&[(PLAIN_OPENMP, b"openmp"), (PLAIN_V4, b"hip")]), PLAIN),
+        case(bundle(&[(PLAIN_OPENMP, b"openmp")]), PLAIN_V4),
     ]
 }
 

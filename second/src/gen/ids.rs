@@ -1,13 +1,13 @@
 //! Entry IDs and device names: meanings, their spellings, the limits, and broken ones.
 
 use super::random::Random;
-use crate::model::id::{meaning, same_target, sign_byte, Sign, Text};
+use crate::model::id::{compared_kind, meaning, same_meaning, same_target, sign_byte, Sign, Text};
 use std::collections::BTreeMap;
 
 /// A meaning with texts of its own.
 pub type Meaning = crate::model::id::Meaning<'static>;
 
-const KINDS: &[&str] = &["host", "hip", "hipv4", "openmp"];
+pub const KINDS: &[&str] = &["host", "hip", "hipv4", "openmp"];
 const ARCHS: &[&str] = &["amdgcn", "amdgcn", "x86_64", "nvptx64", "spirv64", "a", "A", "_", "."];
 const VENDORS: &[&str] = &["amd", "amd", "unknown", "nvidia", "pc", "b", "B.b"];
 const SYSTEMS: &[&str] = &["amdhsa", "amdhsa", "linux", "cuda", "c", "gfx", "sm_"];
@@ -27,7 +27,7 @@ fn word(random: &mut Random, alphabet: &[u8]) -> Text<'static> {
     (0..length).map(|_| *random.choose(alphabet)).collect()
 }
 
-fn choose(random: &mut Random, texts: &[&'static str]) -> Text<'static> {
+pub fn choose(random: &mut Random, texts: &[&'static str]) -> Text<'static> {
     random.choose(texts).as_bytes().into()
 }
 
@@ -56,20 +56,6 @@ pub fn other_sign(sign: Sign) -> Sign {
     }
 }
 
-pub fn drop_first_feature(meaning: &mut Meaning) {
-    let name = meaning.features.keys().next().cloned();
-    drop_feature(meaning, name);
-}
-
-pub fn drop_last_feature(meaning: &mut Meaning) {
-    let name = meaning.features.keys().next_back().cloned();
-    drop_feature(meaning, name);
-}
-
-fn drop_feature(meaning: &mut Meaning, name: Option<Text<'static>>) {
-    meaning.features.remove(&name.expect("a feature"));
-}
-
 /// A meaning with no feature.
 pub fn target(random: &mut Random) -> Meaning {
     let has_processor = !random.one_in(3);
@@ -82,6 +68,32 @@ pub fn target(random: &mut Random) -> Meaning {
         processor: has_processor.then(|| field(random, PROCESSORS)),
         features: BTreeMap::new(),
     }
+}
+
+/// The meaning with `hipv4` for `hip`, and with `hip` for `hipv4`; any other kind has one spelling.
+pub fn kind_respelled(meaning: &Meaning) -> Meaning {
+    let kind = match &meaning.kind[..] {
+        b"hip" => b"hipv4"[..].into(),
+        b"hipv4" => b"hip"[..].into(),
+        _ => meaning.kind.clone(),
+    };
+    Meaning { kind, ..meaning.clone() }
+}
+
+/// The meaning with its kind in either spelling, where the canonical form is not too long.
+pub fn either_spelling(random: &mut Random, meaning: Meaning) -> Meaning {
+    let respelled = kind_respelled(&meaning);
+    if random.one_in(2) && canonical_length(&respelled) <= 256 {
+        return respelled;
+    }
+    meaning
+}
+
+/// Another kind, and not another spelling of the same.
+pub fn change_kind(meaning: &mut Meaning, random: &mut Random) {
+    let kind = compared_kind(&meaning.kind);
+    let others: Vec<&str> = KINDS.iter().copied().filter(|other| compared_kind(other.as_bytes()) != kind).collect();
+    meaning.kind = choose(random, &others);
 }
 
 /// So many different feature names.
@@ -188,7 +200,7 @@ pub fn composed(random: &mut Random, count: usize) -> Vec<Meaning> {
     meanings
 }
 
-/// Different meanings of one target that all state the same feature names, `most` at most.
+/// Different meanings of one target that all state the same feature names, `most` at most, each with its kind in either spelling.
 fn group(random: &mut Random, target: Meaning, most: usize) -> Vec<Meaning> {
     let mut group = Vec::new();
     let names_count = if target.processor.is_some() { some_feature_count(random) } else { 0 };
@@ -196,7 +208,8 @@ fn group(random: &mut Random, target: Meaning, most: usize) -> Vec<Meaning> {
     let tries = random.between(1, 4).min(most);
     for _ in 0..tries {
         let meaning = with_features(random, target.clone(), &names);
-        if canonical_length(&meaning) <= 256 && !group.contains(&meaning) {
+        let meaning = either_spelling(random, meaning);
+        if canonical_length(&meaning) <= 256 && !group.iter().any(|other| same_meaning(other, &meaning)) {
             group.push(meaning);
         }
     }

@@ -2,10 +2,10 @@
 
 use super::bundles::{some_count, FAR_ABOVE};
 use super::ids::{self, IdMaker, Meaning, BROKEN, EDGES};
+use super::pairs::{self, Pair};
 use super::random::Random;
 use super::{Aim, Room, LIMIT};
 use crate::model::bundle_writer::Record;
-use crate::model::id::Sign;
 use crate::model::*;
 
 /// What the bundle writer is given: the image buffer is followed by `zeros` zero bytes.
@@ -198,28 +198,24 @@ fn image_part_aims() -> Vec<WriterAim> {
 }
 
 fn composition_aims() -> Vec<WriterAim> {
-    vec![
-        write(TWICE, "a record twice", |case, random| {
-            let at = case.some_record(random);
-            case.records.truncate(63);
-            case.records.push(case.records[at.min(62)]);
-        }),
-        write(TWICE, "a meaning twice", |case, random| {
-            let meaning = ids::some_meaning(random);
-            case.records.truncate(60);
+    let mut aims = vec![write(TWICE, "a record twice", |case, random| {
+        let at = case.some_record(random);
+        case.records.truncate(63);
+        case.records.push(case.records[at.min(62)]);
+    })];
+    aims.extend(pairs::entries().into_iter().map(stand_together));
+    aims
+}
+
+/// The two entries stand among the records.
+fn stand_together(pair: Pair) -> WriterAim {
+    Aim::new(CALL, pair.number, &pair.name, move |case: &mut Case, random| {
+        case.records.truncate(60);
+        for meaning in (pair.make)(random) {
             case.put_meaning(random, &meaning);
-            case.put_meaning(random, &meaning);
-        }),
-        write(MIXED, "another feature", |case, random| {
-            let count = random.between(1, 3);
-            let meaning = ids::with_feature_count(random, count);
-            let mut other = meaning.clone();
-            other.features.insert(b"only_here"[..].into(), Sign::Off);
-            case.records.truncate(60);
-            case.put_meaning(random, &meaning);
-            case.put_meaning(random, &other);
-        }),
-    ]
+        }
+        case.room = Room::Exact;
+    })
 }
 
 fn output_aims() -> Vec<WriterAim> {

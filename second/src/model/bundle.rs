@@ -1,6 +1,6 @@
 //! "Bundle bytes", the check, the pick, the entry at an index, and "Normal form".
 
-use super::id::{canonical, compatible, meaning, mixed, Meaning};
+use super::id::{canonical, compatible, meaning, mixed, same_meaning, Meaning};
 use super::*;
 
 pub const MAGIC_BYTES: &[u8; 24] = b"__CLANG_OFFLOAD_BUNDLE__";
@@ -105,7 +105,7 @@ fn out_of_range(row: &Row, table_end: u128, length: u128) -> bool {
 /// TWICE: "an earlier entry has the same meaning". MIXED: "an earlier entry of equal kind, triple and processor states other feature
 /// names".
 pub fn composition(meanings: &[Meaning]) -> Result<(), Refusal> {
-    refuse_at(meanings.len(), TWICE, |i| meanings[..i].iter().any(|earlier| *earlier == meanings[i]))?;
+    refuse_at(meanings.len(), TWICE, |i| meanings[..i].iter().any(|earlier| same_meaning(earlier, &meanings[i])))?;
     refuse_at(meanings.len(), MIXED, |i| meanings[..i].iter().any(|earlier| mixed(earlier, &meanings[i])))
 }
 

@@ -1,4 +1,4 @@
-//! The examples of RULES B, the mistakes of RULES C, and entries by index.
+//! The examples of RULES B, the mistakes of RULES C, `hip` beside `hipv4`, and entries by index.
 
 use super::binaries::{read_all, Binary, Pair};
 use super::binary_writer::{write_binary, Content};
@@ -104,6 +104,68 @@ fn mixed_at_the_second() {
 fn twice_in_two_spellings() {
     let bytes = bundle(&[(SHUFFLED, b""), (IN_ORDER, b"")]);
     assert_eq!(check(&bytes), refusal(TWICE, 1));
+}
+
+#[test]
+fn twice_as_hip_and_as_hipv4() {
+    for both in [[PLAIN, PLAIN_V4], [PLAIN_V4, PLAIN]] {
+        assert_eq!(check(&bundle(&both.map(|id| (id, &b""[..])))), refusal(TWICE, 1));
+        assert_eq!(check(&bundle(&[HOST, both[0], PLAIN_OPENMP, both[1]].map(|id| (id, &b""[..])))), refusal(TWICE, 3));
+    }
+    assert_eq!(check(&bundle(&[("hip-a-b-c", b""), ("hipv4-a-b-c--", b"")])), refusal(TWICE, 1));
+}
+
+#[test]
+fn mixed_across_hip_and_hipv4() {
+    assert_eq!(check(&bundle(&[(PLAIN, b""), (XNACK_ON_V4, b"")])), refusal(MIXED, 1));
+    assert_eq!(check(&bundle(&[(XNACK_ON, b""), (XNACK_OFF, b""), (PLAIN_V4, b"")])), refusal(MIXED, 2));
+    assert_eq!(check(&bundle(&[(XNACK_ON, b""), (XNACK_OFF_V4, b"")])), accepted(2));
+}
+
+#[test]
+fn hip_and_other_kinds_are_apart() {
+    let host = "host-amdgcn-amd-amdhsa-gfx906";
+    for hip in [PLAIN, PLAIN_V4, XNACK_ON, XNACK_ON_V4] {
+        assert_eq!(check(&bundle(&[(host, b""), (hip, b""), (PLAIN_OPENMP, b"")])), accepted(3));
+    }
+    for (entry, device) in [(PLAIN, PLAIN_OPENMP), (PLAIN_OPENMP, PLAIN_V4), (host, PLAIN_V4), (PLAIN_V4, host)] {
+        assert_eq!(pick(&bundle(&[(entry, b"")]), device.as_bytes()).number, NONE, "{entry}, {device}");
+    }
+}
+
+#[test]
+fn picks_across_hip_and_hipv4() {
+    for (on, off) in [(XNACK_ON, XNACK_OFF_V4), (XNACK_ON_V4, XNACK_OFF), (XNACK_ON_V4, XNACK_OFF_V4)] {
+        let bytes = bundle(&[(on, b"on"), (off, b"off")]);
+        let position = bytes.len() as u64 - 3;
+        let found = Picked { number: OK, place: 0, index: 1, position, size: 3 };
+        assert_eq!([XNACK_OFF, XNACK_OFF_V4].map(|device| pick(&bytes, device.as_bytes())), [found; 2]);
+        assert_eq!([PLAIN, PLAIN_V4].map(|device| pick(&bytes, device.as_bytes()).number), [NONE; 2]);
+    }
+    assert_eq!(pick(&bundle(&[(XNACK_ON_V4, b"on")]), XNACK_OFF.as_bytes()).number, NONE);
+    assert_eq!(pick(&bundle(&[(XNACK_ON, b"on")]), XNACK_OFF_V4.as_bytes()).number, NONE);
+}
+
+#[test]
+fn canonical_forms_keep_the_kind() {
+    assert_eq!(canonical_text("hipv4-a-b-c"), "hipv4-a-b-c--");
+    assert_eq!(canonical_text("hip-a-b-c"), "hip-a-b-c--");
+}
+
+#[test]
+fn normal_forms_of_hip_and_of_hipv4_differ() {
+    let [hip, hipv4] = ["hip-a-b-c", "hipv4-a-b-c"].map(|id| normal(&bundle(&[(id, b"x")])));
+    assert_eq!(hip, bundle(&[("hip-a-b-c--", b"x")]));
+    assert_eq!(hipv4, bundle(&[("hipv4-a-b-c--", b"x")]));
+    assert_ne!(hip, hipv4);
+}
+
+#[test]
+fn hip_comes_before_hipv4_in_normal_forms() {
+    let bytes = bundle(&[("hipv4-a-b-c", b"3"), ("hip-z-b-c", b"2"), ("openmp-a-b-c", b"4"), ("hip-b-b-c", b"1")]);
+    let expected =
+        bundle(&[("hip-b-b-c--", b"1"), ("hip-z-b-c--", b"2"), ("hipv4-a-b-c--", b"3"), ("openmp-a-b-c--", b"4")]);
+    assert_eq!(normal(&bytes), expected);
 }
 
 #[test]
@@ -250,7 +312,7 @@ fn picks() {
     assert_eq!(pick(&bytes, b"hip-amdgcn-amd-amdhsa--gfx906:xnack-:sramecc+"), found);
     let none = Picked { number: NONE, ..Picked::default() };
     assert_eq!(pick(&bytes, b"hip-amdgcn-amd-amdhsa--gfx906"), none);
-    assert_eq!(pick(&bytes, b"hipv4-amdgcn-amd-amdhsa--gfx906:xnack-"), none);
+    assert_eq!(pick(&bytes, b"openmp-amdgcn-amd-amdhsa--gfx906:xnack-"), none);
     let query = Picked { number: QUERY, ..Picked::default() };
     assert_eq!(pick(&bytes, b""), query);
     assert_eq!(pick(&bytes, b"hip-amdgcn-amd-amdhsa--gfx906:xnack"), query);
@@ -308,6 +370,19 @@ fn bundle_writer_refuses() {
     assert_eq!(written(&[Record { image_start: 3, image_length: 0, ..good }]), (OK, 0));
     assert_eq!(written(&[Record { image_start: 4, image_length: 0, ..good }]), (RANGE, 0));
     assert_eq!(written(&[good, good]), (TWICE, 1));
+}
+
+#[test]
+fn bundle_writer_compares_and_keeps_kinds() {
+    let record = |id_start, id_length| Record { id_start, id_length, image_start: 0, image_length: 0 };
+    let (hip, hipv4, openmp) = (record(0, 9), record(9, 11), record(20, 12));
+    let write = |records: &[Record]| {
+        let mut out = vec![0; 200];
+        let written = write_bundle(records, b"hip-a-b-chipv4-a-b-copenmp-a-b-c", b"", &mut out);
+        (written.number, written.place, out[..written.length as usize].to_vec())
+    };
+    assert_eq!(write(&[hip, openmp, hipv4]), (TWICE, 2, Vec::new()));
+    assert_eq!(write(&[hipv4, openmp]), (OK, 0, bundle(&[("hipv4-a-b-c--", b""), ("openmp-a-b-c--", b"")])));
 }
 
 /// A container of so many binaries of 72 bytes.

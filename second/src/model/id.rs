@@ -14,7 +14,8 @@ pub enum Sign {
 /// Bytes of an ID, or bytes that the generator made up.
 pub type Text<'a> = Cow<'a, [u8]>;
 
-/// "The meaning is kind, the four triple parts, processor, and the set of stated features with their signs."
+/// "The meaning is kind, the four triple parts, processor, and the set of stated features with their signs." The kind is as spelled, in
+/// `==` too: "The canonical form keeps the kind as spelled, and demand 3 still counts the two spellings as different entries."
 #[derive(Clone, Debug, PartialEq, Eq)]
 pub struct Meaning<'a> {
     pub kind: Text<'a>,
@@ -137,14 +138,28 @@ pub fn sign_byte(sign: Sign) -> u8 {
     }
 }
 
+/// The kind that a kind is compared as: "hip and hipv4 are one thing now." "From now on compatibility treats them as equal, and so do
+/// TWICE and MIXED, so a bundle with both spellings of one entry is refused by 7."
+pub fn compared_kind(kind: &[u8]) -> &[u8] {
+    if kind == b"hipv4" {
+        return b"hip";
+    }
+    kind
+}
+
 /// "kind, triple and processor are the same (both may lack a processor)".
 pub fn same_target(one: &Meaning, other: &Meaning) -> bool {
-    one.kind == other.kind
+    compared_kind(&one.kind) == compared_kind(&other.kind)
         && one.arch == other.arch
         && one.vendor == other.vendor
         && one.system == other.system
         && one.environment == other.environment
         && one.processor == other.processor
+}
+
+/// The "same meaning" of TWICE.
+pub fn same_meaning(one: &Meaning, other: &Meaning) -> bool {
+    same_target(one, other) && one.features == other.features
 }
 
 /// "every feature that the entry states is stated by the device with the same sign".

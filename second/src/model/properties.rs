@@ -4,7 +4,7 @@ use super::binaries::read_all;
 use super::binary_writer::{write_binary, PairParts};
 use super::bundle::{check, entries, entry_at_of, normalise, pick, pick_of, Checked, Entries, Entry, Located};
 use super::bundle_writer::write_bundle;
-use super::id::{canonical, compatible, meaning, mixed};
+use super::id::{canonical, compatible, meaning, mixed, same_meaning};
 use super::*;
 use crate::gen::bundles::{some_count, Draft};
 use crate::gen::random::Random;
@@ -63,10 +63,12 @@ fn a_canonical_form_has_its_own_meaning_and_form() {
 fn a_device_gets_at_most_one_of_two_that_may_stand_together() {
     each_case(|random| {
         let one = ids::some_meaning(random);
-        let device = ids::with_more_features(random, &one);
-        let other = ids::with_more_features(random, &one);
+        let [device, other] = [(); 2].map(|_| {
+            let more = ids::with_more_features(random, &one);
+            ids::either_spelling(random, more)
+        });
         if compatible(&one, &device) && compatible(&other, &device) {
-            assert!(one == other || mixed(&one, &other));
+            assert!(same_meaning(&one, &other) || mixed(&one, &other));
         }
     });
 }
@@ -123,6 +125,7 @@ fn normal_form_gives_the_same_picks() {
         };
         for row in &draft.rows {
             let device = ids::with_more_features(random, &row.meaning);
+            let device = ids::either_spelling(random, device);
             same_pick(&ids::spelled(random, &device));
         }
         same_pick(&draft.device);
@@ -139,12 +142,44 @@ fn normal_forms_are_equal_exactly_when_the_entries_are() {
             let at = random.below(other.body.len());
             other.body[at] ^= 1;
         }
-        for row in one.rows.iter_mut().chain(&mut other.rows) {
-            row.id = ids::spelled(random, &row.meaning);
-            row.id_length = row.id.len() as u64;
+        if random.one_in(3) {
+            respell_kinds(random, &mut other);
         }
+        respell(random, &mut one);
+        respell(random, &mut other);
         let (one, other) = (one.bytes(), other.bytes());
         assert_eq!(normal_form(&one) == normal_form(&other), same_entries(&one, &other));
+    });
+}
+
+/// Each meaning with its kind in either spelling.
+fn respell_kinds(random: &mut Random, draft: &mut Draft) {
+    for row in &mut draft.rows {
+        row.meaning = ids::either_spelling(random, row.meaning.clone());
+    }
+}
+
+/// Each ID in any spelling of its meaning.
+fn respell(random: &mut Random, draft: &mut Draft) {
+    for row in &mut draft.rows {
+        row.id = ids::spelled(random, &row.meaning);
+        row.id_length = row.id.len() as u64;
+    }
+}
+
+#[test]
+fn the_spelling_of_a_kind_shows_in_the_normal_form_alone() {
+    each_case(|random| {
+        let one = some_bundle(random);
+        let mut other = one.clone();
+        respell_kinds(random, &mut other);
+        respell(random, &mut other);
+        let (bundle, respelled) = (one.bytes(), other.bytes());
+        assert_eq!(check(&bundle), check(&respelled));
+        let (picked, again) = (pick(&bundle, &one.device), pick(&respelled, &one.device));
+        assert_eq!((picked.number, picked.index, picked.size), (again.number, again.index, again.size));
+        let same_kinds = one.rows.iter().zip(&other.rows).all(|(row, other)| row.meaning.kind == other.meaning.kind);
+        assert_eq!(normal_form(&bundle) == normal_form(&respelled), same_kinds);
     });
 }
 

@@ -1,12 +1,13 @@
 -- `canonical_form::canonical` meets its contract. Assumes nothing.
 use Prim.Native.Nat.{_+_, _≤_}
-use mathlib.Core.Path.{sym, _∙_, ap}
+use mathlib.Core.Path.{sym, _∙_, ap, subst}
 use lib.ListN.{length}
 use lib.Seq.{length-take-le}
 use borrow.Author.Tests.{not-true, not-false}
-use Rattle.entry_id.specs.Canonical.{canonicalIn, headNumber}
+use Rattle.entry_id.specs.Canonical.{canonicalIn, kindPart, afterKind, keyOf}
 use Rattle.wire.proofs.OverwriteLaws.{length-overwrite}
-use Rattle.canonical_form.proofs.PlanLaws.{no-form-is, canon-none, canon-small, plan-length, canon-written, head-written, form-is}
+use Rattle.canonical_form.specs.Heads.{Kinded}
+use Rattle.canonical_form.proofs.PlanLaws.{no-form-is, canon-none, canon-small, plan-length, canon-written, head-written, head-kinded, form-is}
 use native.Mathlib.Omega.{arith}
 use borrow.Author.Needs.{needs}
 use Rattle.canonical_form.proofs.canonical.Statement.{statement}
@@ -59,8 +60,8 @@ put-text-requires c κs =
     let pl = c .before .before .before .before .before .read .ensures .found (not-false _ (c .before .before .if1 .left)) in
     (omega (arith, pl .place, pl .below), (pl .within, (pl .few-dashes, omega (arith, pl .within, c .before .if2 .left))))
 
-add-head-number : tie.Need-add-head-number
-add-head-number c =
+add-head-key : tie.Need-add-head-key
+add-head-key c =
     let x = c .before .before .before .before .before .before .before .before .before .before .before .before .args .id .now in
     let o = c .before .before .before .before .before .before .before .before .before .before .before .before .args .out .now in
     let m = c .before .before .before .before .before .before .before .before .read .result in
@@ -68,8 +69,8 @@ add-head-number c =
     let pl = c .before .before .before .before .before .before .before .before .read .ensures .found (not-false _ (c .before .before .before .before .before .if1 .left)) in
     omega (arith, pl .few-dashes, pl .below, pl .within)
 
-slice-reshare-prefix-head-number : tie.Need-slice-reshare-prefix-head-number
-slice-reshare-prefix-head-number c =
+slice-reshare-prefix-head-key : tie.Need-slice-reshare-prefix-head-key
+slice-reshare-prefix-head-key c =
     let x = c .before .before .before .before .before .before .before .before .before .before .before .before .args .id .now in
     let o = c .before .before .before .before .before .before .before .before .before .before .before .before .args .out .now in
     let m = c .before .before .before .before .before .before .before .before .read .result in
@@ -78,8 +79,8 @@ slice-reshare-prefix-head-number c =
     let z = ap length (c .before .before .put-text .ensures) ∙ length-overwrite o 0 _ in
     omega (arith, z, pl .below, pl .within, c .before .before .before .before .if2 .left)
 
-slice-aggregate-head-number : tie.Need-slice-aggregate-head-number
-slice-aggregate-head-number c =
+slice-aggregate-head-key : tie.Need-slice-aggregate-head-key
+slice-aggregate-head-key c =
     let x = c .before .before .before .before .before .before .before .before .before .before .before .before .before .args .id .now in
     let o = c .before .before .before .before .before .before .before .before .before .before .before .before .before .args .out .now in
     let m = c .before .before .before .before .before .before .before .before .before .read .result in
@@ -89,8 +90,18 @@ slice-aggregate-head-number c =
     let z = ap length (h .ensures) ∙ length-overwrite o 0 _ in
     sym (length-take-le (m .stop + m .dashes) (h .last .0) (omega (arith, z, pl .below, pl .within, c .before .before .before .before .before .if2 .left)))
 
-head-number-requires : tie.Need-head-number-requires
-head-number-requires c κs = search needs
+head-key-requires : tie.Need-head-key-requires
+head-key-requires c κs =
+    let x = c .before .before .before .before .before .before .before .before .before .before .before .before .before .args .id .now in
+    let o = c .before .before .before .before .before .before .before .before .before .before .before .before .before .args .out .now in
+    let m = c .before .before .before .before .before .before .before .before .before .read .result in
+    let t = c .before .before .before .before .before .before .before .before .before .read .last .1 .0 in
+    let pl = c .before .before .before .before .before .before .before .before .before .read .ensures .found (not-false _ (c .before .before .before .before .before .before .if1 .left)) in
+    let h = c .before .before .before .put-text in
+    let room : length x + m .dashes ≤ length o = c .before .before .before .before .before .if2 .left in
+    subst Kinded
+    (sym (head-written x (m .at) (m .dashes) (m .stop) (m .upto) (m .n) t pl o room (h .last .0) (h .ensures)))
+    (head-kinded x (m .at) (m .dashes) (m .stop) (m .upto) (m .n) t pl o room)
 
 add-put-pieces : tie.Need-add-put-pieces
 add-put-pieces c =
@@ -125,11 +136,11 @@ returns-3 c =
     let t = c .before .before .before .before .before .before .before .before .before .before .before .before .before .before .before .read .last .1 .0 in
     let pl = c .before .before .before .before .before .before .before .before .before .before .before .before .before .before .before .read .ensures .found (not-false _ (c .before .before .before .before .before .before .before .before .before .before .before .before .if1 .left)) in
     let h = c .before .before .before .before .before .before .before .before .before .put-text in
-    let w = c .before .before .before .before .before .head-number in
+    let w = c .before .before .before .before .before .head-key in
     let q = c .before .before .put-pieces in
     let room : length x + m .dashes ≤ length o = c .before .before .before .before .before .before .before .before .before .before .before .if2 .left in
     let hd = head-written x (m .at) (m .dashes) (m .stop) (m .upto) (m .n) t pl o room (h .last .0) (h .ensures) in
-    (form-is x (m .at) (m .dashes) (m .stop) (m .upto) (m .n) t pl o room (w .result) (w .ensures ∙ ap headNumber hd), canon-written x (m .at) (m .dashes) (m .stop) (m .upto) (m .n) t pl o room (h .last .0) (q .last .0) (h .ensures) (q .ensures))
+    (form-is x (m .at) (m .dashes) (m .stop) (m .upto) (m .n) t pl o room (w .result) (w .ensures ∙ ap (λ h. keyOf (kindPart h) (afterKind h)) hd), canon-written x (m .at) (m .dashes) (m .stop) (m .upto) (m .n) t pl o room (h .last .0) (q .last .0) (h .ensures) (q .ensures))
 
 pub canonical-spec : {M : Type 1} → statement M
 canonical-spec =
@@ -143,10 +154,10 @@ canonical-spec =
     no-form-requires-2
     returns-2
     put-text-requires
-    add-head-number
-    slice-reshare-prefix-head-number
-    slice-aggregate-head-number
-    head-number-requires
+    add-head-key
+    slice-reshare-prefix-head-key
+    slice-aggregate-head-key
+    head-key-requires
     add-put-pieces
     slice-aggregate-put-pieces
     put-pieces-requires

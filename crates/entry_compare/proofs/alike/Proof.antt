@@ -10,7 +10,9 @@ use Rattle.wire.specs.Bytes.{common}
 use Rattle.wire.proofs.ByteLaws.{common-within}
 use Rattle.wire.specs.Lists.{agree}
 use Rattle.entry_id.specs.Canonical.{sameButSign}
-use Rattle.entry_compare.proofs.TestLaws.{rest-is, alike-lengths, alike-start, start-apart, alike-other, alike-next, next-apart, alike-end}
+use Rattle.entry_id.specs.Scan.{part}
+use Rattle.entry_id.proofs.RunLaws.{part-rest}
+use Rattle.entry_compare.proofs.TestLaws.{alike-lengths, alike-start, start-apart, alike-other, alike-next, next-apart, alike-end}
 use Rattle.entry_compare.proofs.alike.Statement.{statement}
 use Rattle.entry_compare.proofs.alike.Tie as tie
 
@@ -71,28 +73,31 @@ common-prefix-requires : tie.Need-common-prefix-requires Inv-loop μ-loop
 common-prefix-requires c κs = search needs
 
 add-at : tie.Need-add-at Inv-loop μ-loop
+unfolding part
 add-at c = let l = c .before .before .before .before .before .before .before .before .before .loop in
     let a = c .before .before .before .before .before .before .before .before .before .before .before .before .before .args .a .now in
     let b = c .before .before .before .before .before .before .before .before .before .before .before .before .before .args .b .now in
     let n = c .common-prefix in
-    let e = n .ensures ∙ ap₂ common (rest-is a (l .at + 1)) (rest-is b (l .at + 1)) in
+    let e = n .ensures ∙ ap₂ common (part-rest a (l .at + 1)) (part-rest b (l .at + 1)) in
     let k : l .at + 1 + n .result ≤ length a = omega (arith, e, common-within (drop (l .at + 1) a) (drop (l .at + 1) b) .0, length-drop (l .at + 1) a) in
     search needs
 
 loop-less : tie.Need-loop-less Inv-loop μ-loop
+unfolding part
 loop-less c = let l = c .before .before .before .before .before .before .before .before .before .loop in
     let a = c .before .before .before .before .before .before .before .before .before .before .before .before .before .args .a .now in
     let b = c .before .before .before .before .before .before .before .before .before .before .before .before .before .args .b .now in
     let n = c .common-prefix in
-    let e = n .ensures ∙ ap₂ common (rest-is a (l .at + 1)) (rest-is b (l .at + 1)) in
+    let e = n .ensures ∙ ap₂ common (part-rest a (l .at + 1)) (part-rest b (l .at + 1)) in
     omega arith
 
 loop-again : tie.Need-loop-again Inv-loop μ-loop
+unfolding part
 loop-again c = let l = c .before .before .before .before .before .before .before .before .before .loop in
     let a = c .before .before .before .before .before .before .before .before .before .before .before .before .before .args .a .now in
     let b = c .before .before .before .before .before .before .before .before .before .before .before .before .before .args .b .now in
     let n = c .common-prefix in
-    let e = n .ensures ∙ ap₂ common (rest-is a (l .at + 1)) (rest-is b (l .at + 1)) in
+    let e = n .ensures ∙ ap₂ common (part-rest a (l .at + 1)) (part-rest b (l .at + 1)) in
     let s = ap₂ _&&_ (sym (c .before .before .before .before .before .before .sign-byte .ensures)) (sym (c .before .before .before .before .sign-byte2 .ensures)) ∙ not-false _ (c .before .before .before .if2 .left) in
     (omega (arith, e, common-within (drop (l .at + 1) a) (drop (l .at + 1) b) .0, length-drop (l .at + 1) a), l .inv .1, alike-next a b (l .at) (l .inv .1) (l .inv .2) (omega arith) s (n .result) e, next-apart a b (l .at) (l .inv .1) (l .inv .2) (omega arith) s (n .result) e)
 

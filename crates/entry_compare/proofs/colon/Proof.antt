@@ -1,64 +1,18 @@
--- `entry_compare::colon` meets its contract. The loop's invariant: no byte so far is a ':'. Assumes nothing.
-use Prim.Native.Nat.{_≤_, _-_}
-use mathlib.Core.Bool.{not}
-use mathlib.Core.Path.{ap}
-use lib.ListN.{length}
-use lib.Dec.{T}
-use borrow.Author.Tests.{eq-eqb, ne-eqb}
-use Rattle.wire.specs.Lists.{every}
+use borrow.Author.Needs.{needs}
+use mathlib.Core.Path.{subst}
 use Rattle.entry_id.specs.Text.{notColon}
-use Rattle.entry_id.specs.Scan.{part}
-use Rattle.entry_id.proofs.RunLaws.{run-none, run-more}
-use native.Mathlib.Omega.{arith}
+use Rattle.entry_id.specs.Scan.{part, Run}
+use Rattle.entry_id.proofs.RunLaws.{part-rest, run-behind}
 use Rattle.entry_compare.proofs.colon.Statement.{statement}
 use Rattle.entry_compare.proofs.colon.Tie as tie
 
-abbrev Inv-loop : tie.InvT-loop
-Inv-loop x from i₀ i = (from ≤ i) × ((i ≤ length x) × T (every notColon (part x from i)))
-
-abbrev μ-loop : tie.MeasureT-loop
-μ-loop x from i₀ i = length x - i
-
-loop-holds : tie.Need-loop-holds Inv-loop μ-loop
-loop-holds c = (omega arith, (omega arith, run-none notColon (c .args .x .now) (c .args .from)))
-
-shared-slice-read-if1 : tie.Need-shared-slice-read-if1 Inv-loop μ-loop
-shared-slice-read-if1 c = omega arith
-
-returns : tie.Need-returns Inv-loop μ-loop
-unfolding notColon
+returns : tie.Need-returns
+unfolding part
 returns c =
-    let l = c .before .before .before .loop in
-    record { low = omega arith; high = omega arith; passed = l .inv .1 .1; stop = λ h. ap not (eq-eqb _ 58 (c .if1 .taken)) }
-
-add-i : tie.Need-add-i Inv-loop μ-loop
-add-i c = omega arith
-
-loop-less : tie.Need-loop-less Inv-loop μ-loop
-loop-less c = omega arith
-
-loop-again : tie.Need-loop-again Inv-loop μ-loop
-unfolding notColon
-loop-again c =
-    let a = c .before .before .before .before .args in
-    let l = c .before .before .before .loop in
-    (omega arith, (omega arith, run-more notColon (a .x .now) (a .from) (l .i) (omega arith) (omega arith) (l .inv .1 .1) (ap not (ne-eqb _ 58 (c .if1 .left)))))
-
-returns-2 : tie.Need-returns-2 Inv-loop μ-loop
-returns-2 c =
-    let l = c .before .loop in
-    record { low = omega arith; high = omega arith; passed = l .inv .1 .1; stop = λ h. absurd (omega arith) }
+    let a = c .before .before .before .args in
+    run-behind notColon (a .x .now) (a .from) _ (c .before .before .before .pre)
+    (subst (λ y. Run notColon y 0 (c .find .result)) (part-rest (a .x .now) (a .from)) (c .find .ensures))
 
 pub colon-spec : {M : Type 1} → statement M
 colon-spec =
-    tie.close
-    (tie.spec
-    Inv-loop
-    μ-loop
-    loop-holds
-    shared-slice-read-if1
-    returns
-    add-i
-    loop-less
-    loop-again
-    returns-2)
+    tie.close (tie.spec (λ c. search needs) (λ c. search needs) (λ c. search needs) (λ c κs. search needs) (λ c. search needs) returns)

@@ -1,45 +1,23 @@
 use borrow.Author.Needs.{needs}
-use native.Mathlib.Omega.{arith}
-use mathlib.Core.Path.{sym, _∙_}
-use Rattle.entry_compare.proofs.TestLaws.{compatible-self, compatible-no, compatible-yes, whole-same}
+use mathlib.Core.Path.{_∙_}
+use Rattle.entry_id.specs.Canonical.{compatibleSpelled, compatibleText}
+use Rattle.entry_compare.proofs.KindLaws.{compatible-head, uncut}
 use Rattle.entry_compare.proofs.compatible.Statement.{statement}
 use Rattle.entry_compare.proofs.compatible.Tie as tie
 
-common-prefix-requires : tie.Need-common-prefix-requires
-common-prefix-requires c κs = search needs
-
 returns : tie.Need-returns
-returns c = let n = c .before .common-prefix in
-    compatible-self _ _ (sym (whole-same _ _ (n .result) (n .ensures)) ∙ c .if1 .taken)
-
-meet-requires : tie.Need-meet-requires
-meet-requires c κs = search needs
+returns c = c .compatible-cut .ensures
 
 returns-2 : tie.Need-returns-2
-returns-2 c = compatible-no _ _ (c .before .meet .result) (c .before .meet .ensures) (c .if2 .taken)
-
-sub-all-in : tie.Need-sub-all-in
-sub-all-in c = search needs
-
-sub-all-in-2 : tie.Need-sub-all-in-2
-sub-all-in-2 c = search needs
-
-all-in-requires : tie.Need-all-in-requires
-all-in-requires c κs = search needs
-
-returns-3 : tie.Need-returns-3
-returns-3 c = let m = c .before .before .meet in
-    c .all-in .ensures ∙ compatible-yes _ _ (m .result) (m .ensures) (omega (arith, c .before .if2 .left))
+unfolding compatibleText
+returns-2 c = c .compatible-from .ensures ∙ uncut _ _ _ (c .before .before .common-prefix .ensures) (c .before .if1 .left) compatibleSpelled compatible-head
 
 pub compatible-spec : {M : Type 1} → statement M
 compatible-spec =
     tie.close
     (tie.spec
-    common-prefix-requires
+    (λ c κs. search needs)
+    (λ c κs. search needs)
     returns
-    meet-requires
-    returns-2
-    sub-all-in
-    sub-all-in-2
-    all-in-requires
-    returns-3)
+    (λ c κs. search needs)
+    returns-2)

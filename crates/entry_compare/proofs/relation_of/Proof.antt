@@ -1,51 +1,27 @@
 use borrow.Author.Needs.{needs}
-use native.Mathlib.Omega.{arith}
-use Prim.Native.Nat.{_<_}
-use mathlib.Core.Path.{_≡_, sym, ap, ap₂, _∙_}
-use mathlib.Core.Bool.{not}
-use borrow.Author.Tests.{eqb-true, eq-eqb, ne-eqb}
-use Rattle.wire.proofs.Bools.{and-both}
-use Rattle.entry_id.specs.Canonical.{sameText}
-use Rattle.entry_compare.proofs.TestLaws.{mixed-alike, mixed-meet, whole-same, whole-alike}
+use mathlib.Core.Path.{ap₂, _∙_}
+use Rattle.wire.specs.Bytes.{same}
+use Rattle.entry_id.specs.Canonical.{mixedSpelled, sameText, mixedText}
+use Rattle.entry_compare.proofs.KindLaws.{same-head, mixed-head, uncut}
 use Rattle.entry_compare.proofs.relation_of.Statement.{statement}
 use Rattle.entry_compare.proofs.relation_of.Tie as tie
 
-common-prefix-requires : tie.Need-common-prefix-requires
-common-prefix-requires c κs = search needs
-
 returns : tie.Need-returns
-unfolding sameText
-returns c = let a = c .before .before .before .before .args .a .now in
-    let b = c .before .before .before .before .args .b .now in
-    let n = c .before .common-prefix in
-    let (x, y) = and-both _ _ (c .if1 .taken) in
-    ap₂ (λ x y. record { same = x; mixed = y }) (sym (c .if1 .taken) ∙ whole-same a b (n .result) (n .ensures)) (mixed-alike a b (sym (whole-alike a b (n .result) (n .ensures) (eqb-true _ _ x) (eqb-true _ _ y))))
-
-alike-requires : tie.Need-alike-requires
-alike-requires c κs = search needs
+returns c = c .relation-cut .ensures
 
 returns-2 : tie.Need-returns-2
-unfolding sameText
-returns-2 c = let a = c .before .before .before .before .before .before .args .a .now in
-    let b = c .before .before .before .before .before .before .args .b .now in
-    let n = c .before .before .before .common-prefix in
-    ap₂ (λ x y. record { same = x; mixed = y }) (sym (c .before .before .if1 .left) ∙ whole-same a b (n .result) (n .ensures)) (mixed-alike a b (sym (c .before .alike .ensures) ∙ c .if2 .taken))
-
-meet-requires : tie.Need-meet-requires
-meet-requires c κs = search needs
-
-returns-3 : tie.Need-returns-3
-unfolding sameText
-returns-3 c = let a = c .before .before .before .before .before .before .before .args .a .now in
-    let b = c .before .before .before .before .before .before .before .args .b .now in
-    let n = c .before .before .before .before .common-prefix in
-    let m = c .meet in
-    ap₂ (λ x y. record { same = x; mixed = y }) (sym (c .before .before .before .if1 .left) ∙ whole-same a b (n .result) (n .ensures))
-    (mixed-meet _ _ _ (m .ensures) (sym (c .before .before .alike .ensures) ∙ c .before .if2 .left) _
-    (λ (h : 0 < m .result). ap not (ne-eqb _ _ (λ (z : m .result ≡ 0). omega arith)))
-    (λ h. ap not (eq-eqb _ _ h)))
+unfolding sameText mixedText
+returns-2 c =
+    let n = c .before .before .common-prefix .ensures in
+    let far = c .before .if1 .left in
+    c .relation-from .ensures ∙ ap₂ (λ x y. record { same = x; mixed = y }) (uncut _ _ _ n far same same-head) (uncut _ _ _ n far mixedSpelled mixed-head)
 
 pub relation-of-spec : {M : Type 1} → statement M
 relation-of-spec =
     tie.close
-    (tie.spec common-prefix-requires returns alike-requires returns-2 meet-requires returns-3)
+    (tie.spec
+    (λ c κs. search needs)
+    (λ c κs. search needs)
+    returns
+    (λ c κs. search needs)
+    returns-2)

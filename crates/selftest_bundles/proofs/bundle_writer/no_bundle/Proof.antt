@@ -10,4 +10,5 @@ pub no-bundle-spec : {M : Type 1} → statement M
 unfolding computing.bundles
 no-bundle-spec = tie.close (tie.spec
     (λ c. refl) (λ c. refl) (λ c. refl) (λ c. refl) (λ c κs. (refl, refl))
+    (λ c. refl) (λ c. refl) (λ c. refl) (λ c. refl) (λ c κs. (refl, refl))
     (λ c. search needs))

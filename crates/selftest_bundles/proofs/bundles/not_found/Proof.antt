@@ -11,5 +11,4 @@ unfolding computing.bundles
 not-found-spec = tie.close (tie.spec
     (λ c. refl) (λ c. refl) (λ c κs. refl)
     (λ c. refl) (λ c. refl) (λ c κs. refl)
-    (λ c. refl) (λ c. refl) (λ c κs. refl)
     (λ c. search needs))

@@ -11,5 +11,4 @@ unfolding computing.ids
 more-standings-spec = tie.close (tie.spec
     (λ c. refl) (λ c. refl) (λ c κs. (refl, refl, refl))
     (λ c. refl) (λ c. refl) (λ c κs. (refl, refl, refl))
-    (λ c. refl) (λ c. refl) (λ c κs. (refl, refl, refl))
     (λ c. search needs))
