@@ -133,7 +133,7 @@ module _ (R : IdRules) (s : List ℕ) where
     from-6 : 6 ≤ suc m → bundleStop R s ≡ at6 ⨾ at7 ⨾ at8
     from-6 h = past at5 (at6 ⨾ at7 ⨾ at8) (from-5 (omega arith)) (λ q. omega (arith, only-at 5 n _ m q))
 
-    from-7 : 7 ≤ suc m → bundleStop R s ≡ at7 ⨾ at8
+    pub from-7 : 7 ≤ suc m → bundleStop R s ≡ at7 ⨾ at8
     from-7 h = past at6 (at7 ⨾ at8) (from-6 (omega arith)) (λ q. omega (arith, only-at 6 n _ m q))
 
     from-8 : 8 ≤ suc m → bundleStop R s ≡ at8

@@ -11,3 +11,4 @@ pub mod Normal
 pub mod Writer
 pub mod Demand
 pub mod Demand2
+pub mod OneKind

@@ -1,15 +1,15 @@
 -- Heads that start with a kind, and the key made from them. Assumes nothing.
-use Prim.Native.Nat.{ℕ, suc, _≤_}
+use Prim.Native.Nat.{ℕ, _≤_}
 use native.Mathlib.Omega.{arith}
-use mathlib.Core.Path.{_≡_, sym, ap, _∙_, subst}
-use mathlib.Core.Bool.{Bool, cond}
+use mathlib.Core.Path.{_≡_, sym, ap, _∙_}
+use mathlib.Core.Bool.{cond}
 use mathlib.Core.List.{List, _∷_, _++_}
-use lib.Dec.{T, eqb, leb, eqb→eq, leb→le}
+use lib.Dec.{eqb, leb, eqb→eq, leb→le}
 use lib.ListN.{length, getD, length-append}
 use borrow.Author.Tests.{eq-eqb, ne-eqb}
 use Rattle.wire.specs.Bytes.{same}
-use Rattle.wire.specs.Lists.{any, every}
-use Rattle.entry_id.specs.Meaning.{kinds, fieldByte}
+use Rattle.wire.specs.Lists.{every}
+use Rattle.entry_id.specs.Meaning.{kinds}
 use Rattle.entry_id.specs.Compare.{comparedKind}
 use Rattle.entry_id.specs.Canonical.{kindPart}
 use Rattle.entry_id.proofs.ReadBack.{any-holds, kind-bytes}

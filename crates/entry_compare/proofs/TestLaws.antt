@@ -5,11 +5,11 @@ use mathlib.Core.Logic.{inl, inr}
 use mathlib.Core.Bool.{Bool, true, false, not, _&&_}
 use mathlib.Core.List.{List, [], _∷_}
 use lib.ListN.{length, getD, take, drop, drop-of-length-le, length-drop}
-use lib.Seq.{take-all, drop-cons, drop-drop, getD-drop, getD-take, length-take-le}
+use lib.Seq.{drop-cons, drop-drop, getD-drop, getD-take, length-take-le}
 use lib.Dec.{T, ltb, eqb}
 use borrow.Author.Tests.{eqb-true, eqb-false, eq-eqb, ne-eqb, lt-ltb, le-ltb, ltb-true, ltb-false, not-true, not-false}
 use Rattle.wire.specs.Lists.{agree, any, every}
-use Rattle.entry_id.specs.Text.{splitOn, onFirst, otherThan, notColon}
+use Rattle.entry_id.specs.Text.{splitOn, otherThan, notColon}
 use Rattle.wire.specs.Bytes.{same, common}
 use Rattle.entry_id.proofs.TextLaws.{every-imp}
 use Rattle.entry_id.proofs.KindLaws.{head-none, head-colon, head-more}

@@ -1,8 +1,8 @@
 -- What the tests on canonical texts say of the meanings. Assumes nothing.
 use Prim.Native.Nat.{ℕ}
 use Prim.Native.Char.{code}
-use mathlib.Core.Path.{_≡_, refl, sym, ap, ap₂, _∙_, subst}
-use mathlib.Core.Bool.{Bool, true, not, _&&_}
+use mathlib.Core.Path.{_≡_, sym, ap, ap₂, _∙_, subst}
+use mathlib.Core.Bool.{Bool, not, _&&_}
 use mathlib.Core.List.{List, [], _∷_, map}
 use lib.ListN.{getD}
 use lib.Dec.{T}
@@ -11,7 +11,7 @@ use Rattle.entry_id.specs.Text.{splitOn, joinWith}
 use Rattle.wire.specs.Bytes.{same}
 use Rattle.wire.proofs.ByteLaws.{same-refl, same-eq}
 use Rattle.wire.proofs.Bools.{bool-ext, byBool, of-true, and-l, and-r, and-t, and-assoc}
-use Rattle.entry_id.specs.Meaning.{Meaning, piecesOf, piece, sixFields, canonicalOf, meaning, valid, canon}
+use Rattle.entry_id.specs.Meaning.{Meaning, piece, sixFields, canonicalOf, meaning, valid, canon}
 use Rattle.entry_id.specs.Compare.{comparedKind, comparedAs, sameTarget, sameFeature, compatible, sameNames, sameMeaning, mixed}
 use Rattle.entry_id.specs.Canonical.{headOf, kindPart, afterKind, within, sameButSign, ofOneKind, compatibleSpelled, mixedSpelled, compatibleText, sameText, mixedText}
 use Rattle.entry_id.proofs.ReadBack.{Proper, Plain, parts, proper-meaning, plain-meaning, canon-is, head-write, pieces-back, meaning-write}
