@@ -14,4 +14,4 @@ pub mod NormalLaws
 pub mod WriterLaws
 pub mod Demand
 pub mod Demand2
-pub mod OneKind
+pub mod EitherSpelling

@@ -11,4 +11,4 @@ pub mod Normal
 pub mod Writer
 pub mod Demand
 pub mod Demand2
-pub mod OneKind
+pub mod EitherSpelling

@@ -16,8 +16,8 @@ use Rattle.entry_id.proofs.ReadBack.{any-holds, kind-bytes}
 use Rattle.entry_id.proofs.KindLaws.{kind-before}
 use Rattle.canonical_form.specs.Heads.{Kinded}
 
--- by its first, second and fourth bytes
-byBytes : List ℕ → ℕ
+-- the length of the kind, by the first, second and fourth bytes
+unfoldable pub byBytes : List ℕ → ℕ
 byBytes x = cond (eqb (getD x 0 0) 111) 6 (cond (eqb (getD x 1 0) 111) 4 (cond (eqb (getD x 3 0) 45) 3 5))
 
 module _ (x : List ℕ) (h : Kinded x) where
@@ -28,8 +28,7 @@ module _ (x : List ℕ) (h : Kinded x) where
   unfolding kinds every byBytes
   bytes-tell = eqb→eq _ _ (any-holds (λ k. eqb (length k) (byBytes (k ++ 45 ∷ h .rest))) (h .kind) kinds (h .kind-in) tt)
 
-  pub kind-length : length (kindPart x) ≡ cond (eqb (getD x 0 0) 111) 6 (cond (eqb (getD x 1 0) 111) 4 (cond (eqb (getD x 3 0) 45) 3 5))
-  unfolding byBytes
+  pub kind-length : length (kindPart x) ≡ byBytes x
   kind-length = ap length kind-is ∙ bytes-tell ∙ ap byBytes (sym (h .is))
 
   pub kind-short : (4 ≤ length x) × (length (kindPart x) ≤ length x)

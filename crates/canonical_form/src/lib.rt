@@ -36,30 +36,39 @@ fn head_number(head: &[u8]) -> u64
     std::num::wrapping_add_u64(wire_read::word8_at(head, 0), last_word(head))
 }
 
+// The lengths of the kinds host, hip, hipv4 and openmp.
+const HOST: usize = 4;
+
+const HIP: usize = 3;
+
+const HIPV4: usize = 5;
+
+const OPENMP: usize = 6;
+
 // The length of the kind that a head starts with. Its first, second and fourth bytes tell.
 fn kind_length(head: &[u8]) -> usize
     requires { ⌜ Kinded (now head) ⌝ }
     ensures { λ r. ⌜ r ≡ length (kindPart (now (head .entry))) ⌝ }
 {
     if head[0] == b'o' {
-        return 6;
+        return OPENMP;
     }
     if head[1] == b'o' {
-        return 4;
+        return HOST;
     }
     if head[3] == b'-' {
-        return 3;
+        return HIP;
     }
-    5
+    HIPV4
 }
 
-// The key of a form with this head. hipv4, of 5 bytes, is compared as hip, of 3.
+// The key of a form with this head: hipv4 is compared as hip.
 fn head_key(head: &[u8]) -> u64
     requires { ⌜ Kinded (now head) ⌝ }
     ensures { λ r. ⌜ r ≡ keyOf (kindPart (now (head .entry))) (afterKind (now (head .entry))) ⌝ }
 {
     let kind = kind_length(head);
-    let compared = if kind == 5 { 3 } else { kind };
+    let compared = if kind == HIPV4 { HIP } else { kind };
     std::num::wrapping_add_u64(head_number(&head[kind..]), compared as u64)
 }
 

@@ -14,16 +14,14 @@ use Rattle.wire.specs.Lists.{every}
 use Rattle.wire.proofs.Bools.{byBool, clash, of-true, is-true, and-both, or-t}
 use Rattle.wire.proofs.ByteLaws.{same-eq, same-refl}
 use Rattle.entry_id.specs.Text.{splitOn, otherThan, notColon}
-use Rattle.entry_id.specs.Meaning.{fieldsOf, piecesOf}
+use Rattle.entry_id.specs.Meaning.{fieldsOf}
 use Rattle.entry_id.specs.Compare.{comparedKind}
 use Rattle.entry_id.specs.Canonical.{headOf, kindPart, afterKind, within, compatibleSpelled, mixedSpelled, ofOneKind}
 use Rattle.entry_id.specs.Theorems.{hipKind}
 use Rattle.entry_id.specs.Scan.{part, Run}
-use Rattle.entry_id.proofs.TextLaws.{split-some, split-start}
-use Rattle.entry_id.proofs.ReadBack.{no-colon}
 use Rattle.entry_id.proofs.SignLaws.{agree-self}
 use Rattle.entry_id.proofs.RunLaws.{part-rest, part-start, cut-run}
-use Rattle.entry_id.proofs.KindLaws.{ends, kind-cut, kind-whole, kind-plain, after-none, after-ends, after-more, kinds-apart}
+use Rattle.entry_id.proofs.KindLaws.{ends, head-start, pieces-start, kind-cut, kind-whole, kind-plain, after-none, after-ends, after-more, kinds-apart}
 use Rattle.entry_compare.specs.Meet.{KindEnds, CutIs}
 
 -- ---- where the first field ends
@@ -70,22 +68,12 @@ module _ (a b : List ℕ) (i j : ℕ) (one : Bool) (c : CutIs a b i j one) (test
 
 -- ---- texts as they are
 
--- a start without ':'
-module _ (p : List ℕ) (t : T (every notColon p)) where
-  head-start : (a : List ℕ) → headOf (p ++ a) ≡ p ++ headOf a
-  unfolding headOf
-  head-start a = let (q, qs, e) = split-some 58 a in rw (split-start 58 notColon no-colon p a q qs t e, e)
-
-  pieces-start : (a : List ℕ) → piecesOf (p ++ a) ≡ piecesOf a
-  unfolding piecesOf
-  pieces-start a = let (q, qs, e) = split-some 58 a in rw (split-start 58 notColon no-colon p a q qs t e, e)
-
 same-start : (p a b : List ℕ) → same (p ++ a) (p ++ b) ≡ same a b
 unfolding same
 same-start [] a b = refl
 same-start (y ∷ p) a b = rw (eq-eqb y y refl) (same-start p a b)
 
--- such a start decides nothing where both texts have it, and texts with other heads fail
+-- a start without ':' decides nothing where both texts have it, and texts with other heads fail
 pub record ByHead (test : List ℕ → List ℕ → Bool) : Type 0 where
   pub start : (p a b : List ℕ) → T (every notColon p) → test (p ++ a) (p ++ b) ≡ test a b
   pub apart : (a b : List ℕ) → same (headOf a) (headOf b) ≡ false → test a b ≡ false

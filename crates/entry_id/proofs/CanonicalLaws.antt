@@ -42,9 +42,9 @@ module _ (a b : Meaning) (s : Plain a) (t : Plain b) where
   heads-are = ap₂ same (head-write a s) (head-write b t) ∙ sym (fields-heads a b s t)
 
   -- entry a and device b
-  rest-compatible : compatibleSpelled (canonicalOf a) (canonicalOf b) ≡ (agree same (sixFields a) (sixFields b) && every (λ f. any (sameFeature f) (b .features)) (a .features))
+  compatible-written : compatibleSpelled (canonicalOf a) (canonicalOf b) ≡ (agree same (sixFields a) (sixFields b) && every (λ f. any (sameFeature f) (b .features)) (a .features))
   unfolding compatibleSpelled
-  rest-compatible = ap₂ _&&_ heads-are (ap₂ within (pieces-back b t) (pieces-back a s) ∙ within-pieces (a .features) (b .features))
+  compatible-written = ap₂ _&&_ heads-are (ap₂ within (pieces-back b t) (pieces-back a s) ∙ within-pieces (a .features) (b .features))
 
   -- with the same head
   alike-written : T (agree same (sixFields a) (sixFields b)) → agree sameButSign (canonicalOf a) (canonicalOf b) ≡ sameNames (a .features) (b .features)
@@ -54,15 +54,15 @@ module _ (a b : Meaning) (s : Plain a) (t : Plain b) where
       ap (λ fs. agree sameButSign (canonicalOf a) (joinWith (code ":") (joinWith (code "-") fs ∷ map piece (b .features)))) (sym h)
       ∙ alike-names (joinWith (code "-") (sixFields a)) (a .features) (b .features) (s .all-named) (t .all-named)
 
-  rest-mixed : mixedSpelled (canonicalOf a) (canonicalOf b) ≡ (agree same (sixFields a) (sixFields b) && not (sameNames (a .features) (b .features)))
+  mixed-written : mixedSpelled (canonicalOf a) (canonicalOf b) ≡ (agree same (sixFields a) (sixFields b) && not (sameNames (a .features) (b .features)))
   unfolding mixedSpelled
-  rest-mixed =
+  mixed-written =
       ap (λ (h : Bool). h && not (agree sameButSign (canonicalOf a) (canonicalOf b))) heads-are
       ∙ byBool (agree same (sixFields a) (sixFields b)) (λ e. ap (λ (n : Bool). agree same (sixFields a) (sixFields b) && not n) (alike-written (of-true _ e))) (λ e. rw e)
 
-  rest-same : same (canonicalOf a) (canonicalOf b) ≡ (agree same (sixFields a) (sixFields b) && agree sameFeature (a .features) (b .features))
+  same-written : same (canonicalOf a) (canonicalOf b) ≡ (agree same (sixFields a) (sixFields b) && agree sameFeature (a .features) (b .features))
   unfolding canonicalOf
-  rest-same =
+  same-written =
       let fields = agree same (sixFields a) (sixFields b) in
       let features = agree sameFeature (a .features) (b .features) in
       bool-ext (same (canonicalOf a) (canonicalOf b)) (fields && features)
@@ -104,12 +104,12 @@ module _ (x y : List ℕ) (v : T (valid x)) (w : T (valid y)) where
   -- entry x is compatible with device y
   pub compatible-canonical : compatibleText (canon x) (canon y) ≡ compatible m n
   unfolding compatibleText compatible bare
-  compatible-canonical = by-parts compatibleSpelled _ (rest-compatible (bare m) (bare n) (bare-plain m good-m) (bare-plain n good-n))
+  compatible-canonical = by-parts compatibleSpelled _ (compatible-written (bare m) (bare n) (bare-plain m good-m) (bare-plain n good-n))
 
   pub mixed-canonical : mixedText (canon x) (canon y) ≡ mixed m n
   unfolding mixedText mixed bare
-  mixed-canonical = by-parts mixedSpelled _ (rest-mixed (bare m) (bare n) (bare-plain m good-m) (bare-plain n good-n))
+  mixed-canonical = by-parts mixedSpelled _ (mixed-written (bare m) (bare n) (bare-plain m good-m) (bare-plain n good-n))
 
   pub same-canonical : sameText (canon x) (canon y) ≡ sameMeaning m n
   unfolding sameText sameMeaning bare
-  same-canonical = by-parts same _ (rest-same (bare m) (bare n) (bare-plain m good-m) (bare-plain n good-n))
+  same-canonical = by-parts same _ (same-written (bare m) (bare n) (bare-plain m good-m) (bare-plain n good-n))

@@ -3,13 +3,13 @@ use Prim.Native.Nat.{ℕ}
 use mathlib.Core.Path.{_≡_, refl, sym, ap, _∙_, subst}
 use mathlib.Core.Logic.{inl, inr, _↔_}
 use mathlib.Core.Bool.{Bool, true, false, not, _&&_, Bool·beq}
-use mathlib.Core.List.{List, [], _∷_, map, List·Memᴰ, List·Memᴰ·head, List·Memᴰ·tail, List·Memᴰ·not-nil, List·Memᴰ·cases-cons}
+use mathlib.Core.List.{List, [], _∷_, map, List·Memᴰ, List·Memᴰ·head, List·Memᴰ·tail}
 use lib.Dec.{T}
 use Rattle.wire.proofs.SortLaws.{one-key, sort-in, sort-out}
 use Rattle.wire.specs.Lists.{agree, any, every}
 use Rattle.wire.specs.Order.{risingBy}
 use Rattle.wire.specs.Bytes.{same}
-use Rattle.wire.proofs.Bools.{and-l, and-r, and-t, or-t, or-l, or-r}
+use Rattle.wire.proofs.Bools.{and-l, and-r, and-t, or-t}
 use Rattle.wire.proofs.ByteLaws.{same-refl, same-eq}
 use Rattle.entry_id.specs.Meaning.{byName, Feature, Meaning, piecesOf, feature, meaningOf, meaning, sixFields, valid}
 use Rattle.entry_id.proofs.ReadBack.{parts, proper-meaning}
@@ -38,21 +38,13 @@ pub sameFeature-refl : (f : Feature) → T (sameFeature f f)
 unfolding sameFeature
 sameFeature-refl f = and-t (same (f .name) (f .name)) (Bool·beq (f .on) (f .on)) (same-refl (f .name)) (beq-refl (f .on))
 
--- membership, as the tests have it and as a fact
-pub any-mem : (f : Feature) (l : List Feature) → T (any (sameFeature f) l) → List·Memᴰ f l
+-- membership, as the tests have it, is a fact
+any-mem : (f : Feature) (l : List Feature) → T (any (sameFeature f) l) → List·Memᴰ f l
 unfolding any
 any-mem f [] t = absurd t
 any-mem f (g ∷ l) t = elim (or-t (sameFeature f g) (any (sameFeature f) l) t) [
   | inl u ↦ List·Memᴰ·head (sameFeature-eq f g u)
   | inr u ↦ List·Memᴰ·tail (any-mem f l u)
-]
-
-pub mem-any : (f : Feature) (l : List Feature) → List·Memᴰ f l → T (any (sameFeature f) l)
-unfolding any
-mem-any f [] t = absurd (List·Memᴰ·not-nil t)
-mem-any f (g ∷ l) t = elim (List·Memᴰ·cases-cons t) [
-  | inl e ↦ or-l (sameFeature f g) (any (sameFeature f) l) (subst (λ h. T (sameFeature f h)) e (sameFeature-refl f))
-  | inr u ↦ or-r (sameFeature f g) (any (sameFeature f) l) (mem-any f l u)
 ]
 
 -- ---- sorting keeps the set
@@ -79,15 +71,15 @@ unfolding agree
 agree-refl t h [] = tt
 agree-refl t h (x ∷ a) = and-t (t x x) (agree t a a) (h x) (agree-refl t h a)
 
-pub sameTarget-eq : (a b : Meaning) → T (sameTarget a b) → sixFields (comparedAs a) ≡ sixFields (comparedAs b)
+sameTarget-eq : (a b : Meaning) → T (sameTarget a b) → sixFields (comparedAs a) ≡ sixFields (comparedAs b)
 unfolding sameTarget
 sameTarget-eq a b t = agree-eq same same-eq (sixFields (comparedAs a)) (sixFields (comparedAs b)) t
 
-pub eq-sameTarget : (a b : Meaning) → sixFields (comparedAs a) ≡ sixFields (comparedAs b) → T (sameTarget a b)
+eq-sameTarget : (a b : Meaning) → sixFields (comparedAs a) ≡ sixFields (comparedAs b) → T (sameTarget a b)
 unfolding sameTarget
 eq-sameTarget a b e = subst (λ fs. T (agree same (sixFields (comparedAs a)) fs)) e (agree-refl same same-refl (sixFields (comparedAs a)))
 
-pub sameTarget-join : (a b c : Meaning) → T (sameTarget a b) → T (sameTarget c b) → T (sameTarget a c)
+sameTarget-join : (a b c : Meaning) → T (sameTarget a b) → T (sameTarget c b) → T (sameTarget a c)
 sameTarget-join a b c s t = eq-sameTarget a c (sameTarget-eq a b s ∙ sym (sameTarget-eq c b t))
 
 -- two lists of one set of names, both within one rising list, are one list

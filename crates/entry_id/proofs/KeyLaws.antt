@@ -11,14 +11,12 @@ use Rattle.entry_id.specs.Compare.{comparedKind}
 use Rattle.entry_id.specs.Canonical.{kindPart, afterKind, headOf, headNumber, keyOf, headKey, ofOneKind, compatibleSpelled, mixedSpelled, compatibleText, sameText, mixedText}
 
 module _ (a b : List ℕ) where
-  key-by : same (comparedKind (kindPart a)) (comparedKind (kindPart b)) ≡ true → headOf (afterKind a) ≡ headOf (afterKind b) → headKey a ≡ headKey b
-  unfolding headKey keyOf
-  key-by k h = ap₂ (λ (x y : List ℕ). (headNumber x + length y) % 2 ^ 64) h (same-eq _ _ (of-true _ k))
-
   -- a test that tells heads apart
   key-test : (test : List ℕ → List ℕ → Bool) → (test (afterKind a) (afterKind b) ≡ true → headOf (afterKind a) ≡ headOf (afterKind b)) → ofOneKind test a b ≡ true → headKey a ≡ headKey b
-  unfolding ofOneKind
-  key-test test h e = let (k, t) = and-both _ _ e in key-by k (h t)
+  unfolding ofOneKind headKey keyOf
+  key-test test h e =
+      let (k, t) = and-both (same (comparedKind (kindPart a)) (comparedKind (kindPart b))) _ e in
+      ap₂ (λ (x y : List ℕ). (headNumber x + length y) % 2 ^ 64) (h t) (same-eq _ _ (of-true _ k))
 
   same-heads : (x y : List ℕ) (b : Bool) → (same (headOf x) (headOf y) && b) ≡ true → headOf x ≡ headOf y
   same-heads x y b e = same-eq _ _ (of-true _ (and-both (same (headOf x) (headOf y)) b e .0))

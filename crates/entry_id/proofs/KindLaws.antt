@@ -1,4 +1,4 @@
--- Canonical forms cut behind their kinds. Assumes nothing.
+-- Texts and canonical forms cut behind their kinds; which kinds are compared as one. Assumes nothing.
 use Prim.Native.Nat.{ℕ}
 use Prim.Native.Char.{code}
 use mathlib.Core.Path.{_≡_, refl, sym, ap, ap₂, _∙_}
@@ -33,6 +33,16 @@ head-colon y x e = rw (eq-eqb y 58 e)
 pub head-more : (y : ℕ) (x : List ℕ) → (y ≡ 58 → ⊥) → headOf (y ∷ x) ≡ y ∷ headOf x
 unfolding headOf splitOn onFirst
 head-more y x n = let (q, qs, e) = split-some 58 x in rw (ne-eqb y 58 n, e)
+
+-- a start without ':' belongs to the head
+module _ (p : List ℕ) (t : T (every notColon p)) where
+  pub head-start : (a : List ℕ) → headOf (p ++ a) ≡ p ++ headOf a
+  unfolding headOf
+  head-start a = let (q, qs, e) = split-some 58 a in rw (split-start 58 notColon no-colon p a q qs t e, e)
+
+  pub pieces-start : (a : List ℕ) → piecesOf (p ++ a) ≡ piecesOf a
+  unfolding piecesOf
+  pieces-start a = let (q, qs, e) = split-some 58 a in rw (split-start 58 notColon no-colon p a q qs t e, e)
 
 kind-none : kindPart [] ≡ []
 unfolding kindPart fieldsOf splitOn
@@ -101,17 +111,21 @@ kind-plain (y ∷ x) =
 -- ---- a text that starts with a field and a '-'
 
 module _ (k t : List ℕ) (h : T (every fieldByte k)) where
-  behind-cut : (q : List ℕ) (qs : List (List ℕ)) → splitOn 58 t ≡ q ∷ qs → splitOn 58 (k ++ 45 ∷ t) ≡ (k ++ 45 ∷ q) ∷ qs
-  unfolding splitOn onFirst
-  behind-cut q qs e = split-start 58 notColon no-colon k (45 ∷ t) (45 ∷ q) qs (every-imp fieldByte notColon field-not-colon k h) (rw e)
+  plain-field : T (every notColon k)
+  plain-field = every-imp fieldByte notColon field-not-colon k h
+
+  plain-dash : T (every notColon (45 ∷ []))
+  unfolding every otherThan
+  plain-dash = tt
 
   behind-fields : fieldsOf (k ++ 45 ∷ t) ≡ k ∷ fieldsOf t
-  unfolding fieldsOf
-  behind-fields = let (q, qs, e) = split-some 58 t in rw (behind-cut q qs e, e) (split-skip 45 fieldByte no-dash k q h)
+  unfolding fieldsOf headOf
+  behind-fields =
+      ap (splitOn 45) (head-start k plain-field (45 ∷ t) ∙ ap (λ l. k ++ l) (head-start (45 ∷ []) plain-dash t))
+      ∙ split-skip 45 fieldByte no-dash k (headOf t) h
 
   behind-pieces : piecesOf (k ++ 45 ∷ t) ≡ piecesOf t
-  unfolding piecesOf
-  behind-pieces = let (q, qs, e) = split-some 58 t in rw (behind-cut q qs e, e)
+  behind-pieces = pieces-start k plain-field (45 ∷ t) ∙ pieces-start (45 ∷ []) plain-dash t
 
   pub meaning-behind : meaning (k ++ 45 ∷ t) ≡ meaningOf (k ∷ fieldsOf t) (piecesOf t)
   unfolding meaning
@@ -121,7 +135,7 @@ module _ (k t : List ℕ) (h : T (every fieldByte k)) where
   unfolding kindPart
   kind-before = ap (λ (l : List (List ℕ)). getD l 0 []) behind-fields
 
-  pub after-before : afterKind (k ++ 45 ∷ t) ≡ 45 ∷ t
+  after-before : afterKind (k ++ 45 ∷ t) ≡ 45 ∷ t
   unfolding afterKind
   after-before = ap (λ (l : List ℕ). drop (length l) (k ++ 45 ∷ t)) kind-before ∙ drop-append-seam k (45 ∷ t)
 
@@ -163,10 +177,10 @@ module _ (m : Meaning) (h : Proper m) where
   plain-kind : T (every fieldByte (m .kind))
   plain-kind = kind-bytes (m .kind) (h .kind-in)
 
-  pub kind-form : kindPart (canonicalOf m) ≡ m .kind
+  kind-form : kindPart (canonicalOf m) ≡ m .kind
   kind-form = ap kindPart form-kind ∙ kind-before (m .kind) _ plain-kind
 
-  pub after-form : afterKind (canonicalOf m) ≡ canonicalOf (bare m)
+  after-form : afterKind (canonicalOf m) ≡ canonicalOf (bare m)
   after-form = ap afterKind form-kind ∙ after-before (m .kind) _ plain-kind ∙ sym form-bare
 
   pub kind-head : kindPart (joinWith (code "-") (sixFields m)) ≡ kindPart (canonicalOf m)

@@ -12,7 +12,7 @@ use Rattle.wire.specs.Order.{distinctBy, risingBy, sortBy}
 use Rattle.wire.proofs.Bools.{bool-ext}
 use Rattle.entry_id.specs.Meaning.{byName, Meaning, feature, fieldsOf, piecesOf, fifthIsProcessor, meaning, meaningOf, fieldByte, nameByte}
 use Rattle.entry_id.specs.Compare.{comparedKind, comparedAs, sameTarget, compatible, sameMeaning, mixed}
-use Rattle.entry_id.specs.Theorems.{EntryIds, OneKind}
+use Rattle.entry_id.specs.Theorems.{EntryIds, hipId, hipv4Id, OneKind}
 use Rattle.entry_id.proofs.ReadBack.{canon-meaning, same-canon, canon-valid, canon-size, canon-again, canon-refused}
 use Rattle.entry_id.proofs.FeatureLaws.{features-stated, sameMeaning-eq, eq-sameMeaning, one-entry}
 use Rattle.entry_id.proofs.CompareLaws.{names-sets}
@@ -46,10 +46,10 @@ entryIds = record {
 -- ---- hip and hipv4
 
 abbrev hip : List ℕ → Meaning
-hip t = meaning (bytes "hip-" ++ t)
+hip t = meaning (hipId t)
 
 abbrev four : List ℕ → Meaning
-four t = meaning (bytes "hipv4-" ++ t)
+four t = meaning (hipv4Id t)
 
 -- a text behind either is a meaning that differs in the kind alone
 module _ (t : List ℕ) where

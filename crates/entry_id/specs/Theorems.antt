@@ -46,16 +46,23 @@ pub record EntryIds : Type 0 where
 unfoldable pub hipKind : List ℕ → Bool
 hipKind k = same k (bytes "hip") || same k (bytes "hipv4")
 
+-- a text behind either
+abbrev pub hipId : List ℕ → List ℕ
+hipId t = bytes "hip-" ++ t
+
+abbrev pub hipv4Id : List ℕ → List ℕ
+hipv4Id t = bytes "hipv4-" ++ t
+
 -- "hip and hipv4 are one thing now."
 pub record OneKind : Type 0 where
   -- kinds are compared as one exactly when they are the same or are these two
   pub apart : (j k : List ℕ) → same (comparedKind j) (comparedKind k) ≡ (same j k || (hipKind j && hipKind k))
   -- "both spellings of one entry": any text behind either has the same meaning
-  pub twice : (t : List ℕ) → T (sameMeaning (meaning (bytes "hip-" ++ t)) (meaning (bytes "hipv4-" ++ t)))
+  pub twice : (t : List ℕ) → T (sameMeaning (meaning (hipId t)) (meaning (hipv4Id t)))
   -- no test sees which of the two a text begins with
-  pub entry-either : (t : List ℕ) (d : Meaning) → compatible (meaning (bytes "hip-" ++ t)) d ≡ compatible (meaning (bytes "hipv4-" ++ t)) d
-  pub device-either : (e : Meaning) (t : List ℕ) → compatible e (meaning (bytes "hip-" ++ t)) ≡ compatible e (meaning (bytes "hipv4-" ++ t))
-  pub same-either : (t : List ℕ) (b : Meaning) → sameMeaning (meaning (bytes "hip-" ++ t)) b ≡ sameMeaning (meaning (bytes "hipv4-" ++ t)) b
-  pub mixed-either : (t : List ℕ) (b : Meaning) → mixed (meaning (bytes "hip-" ++ t)) b ≡ mixed (meaning (bytes "hipv4-" ++ t)) b
+  pub entry-either : (t : List ℕ) (d : Meaning) → compatible (meaning (hipId t)) d ≡ compatible (meaning (hipv4Id t)) d
+  pub device-either : (e : Meaning) (t : List ℕ) → compatible e (meaning (hipId t)) ≡ compatible e (meaning (hipv4Id t))
+  pub same-either : (t : List ℕ) (b : Meaning) → sameMeaning (meaning (hipId t)) b ≡ sameMeaning (meaning (hipv4Id t)) b
+  pub mixed-either : (t : List ℕ) (b : Meaning) → mixed (meaning (hipId t)) b ≡ mixed (meaning (hipv4Id t)) b
   -- "The canonical form keeps the kind as spelled": those of the two spellings are different
-  pub kept : (t u : List ℕ) → T (valid (bytes "hip-" ++ t)) → T (valid (bytes "hipv4-" ++ u)) → canon (bytes "hip-" ++ t) ≡ canon (bytes "hipv4-" ++ u) → ⊥
+  pub kept : (t u : List ℕ) → T (valid (hipId t)) → T (valid (hipv4Id u)) → canon (hipId t) ≡ canon (hipv4Id u) → ⊥

@@ -16,12 +16,13 @@ use Rattle.wire.proofs.StopLaws.{⨾-stop}
 use Rattle.entry_id.specs.Meaning.{meaning, valid}
 use Rattle.entry_id.specs.Compare.{compatible, sameMeaning}
 use Rattle.entry_id.specs.Rules.{idRules}
+use Rattle.entry_id.specs.Theorems.{hipId, hipv4Id}
 use Rattle.entry_id.proofs.RuleLaws.{idRules-lawful}
 use Rattle.entry_id.proofs.Theorems.{entryIds, oneKind}
 use Rattle.bundle.specs.Table.{count, row}
 use Rattle.bundle.specs.Check.{meanSame, bundleStop, unrefused, check}
 use Rattle.bundle.specs.Pick.{compatibleAt, chosen, pickStop, pick}
-use Rattle.bundle.specs.OneKind.{hip, hipv4, EitherSpelling}
+use Rattle.bundle.specs.EitherSpelling.{EitherSpelling}
 use Rattle.bundle.specs.declared.Picked.{Picked}
 use Rattle.bundle.proofs.CheckLaws.{bundleStop-le}
 use Rattle.bundle.proofs.PlaceLaws.{from-7}
@@ -49,8 +50,8 @@ module _ (s : List ℕ) (i j : ℕ) (h : i < count s) (l : j < i) (e : meanSame 
       let z : check idRules s .number ≤ 8 = bundleStop-le idRules s in
       (omega (arith, x), omega (arith, y, z))
 
-module _ (s t : List ℕ) (v : T (valid (hip t))) (w : T (valid (hipv4 t))) where
-  module _ (i j : ℕ) (p : row s i .id ≡ hip t) (q : row s j .id ≡ hipv4 t) where
+module _ (s t : List ℕ) (v : T (valid (hipId t))) (w : T (valid (hipv4Id t))) where
+  module _ (i j : ℕ) (p : row s i .id ≡ hipId t) (q : row s j .id ≡ hipv4Id t) where
     same-rows : meanSame idRules (row s i) (row s j) ≡ true
     same-rows =
         demand2 .by-meaning .means-same (row s i) (row s j) (subst (λ x. T (valid x)) (sym p) v) (subst (λ x. T (valid x)) (sym q) w)
@@ -73,10 +74,10 @@ module _ (s t : List ℕ) (v : T (valid (hip t))) (w : T (valid (hipv4 t))) wher
 
   -- ---- a device name
 
-  compatible-either : (i : ℕ) → compatibleAt idRules s (hip t) i ≡ compatibleAt idRules s (hipv4 t) i
+  compatible-either : (i : ℕ) → compatibleAt idRules s (hipId t) i ≡ compatibleAt idRules s (hipv4Id t) i
   unfolding compatibleAt idRules
   compatible-either i =
-      ap (compatible _) (entryIds .read-back (hip t) v) ∙ oneKind .device-either _ t ∙ sym (ap (compatible _) (entryIds .read-back (hipv4 t) w))
+      ap (compatible _) (entryIds .read-back (hipId t) v) ∙ oneKind .device-either _ t ∙ sym (ap (compatible _) (entryIds .read-back (hipv4Id t) w))
 
   -- what a pick makes of a name: whether it breaks the rules, and which entries are compatible
   answer : Bool → (ℕ → Bool) → Picked
@@ -85,11 +86,11 @@ module _ (s t : List ℕ) (v : T (valid (hip t))) (w : T (valid (hipv4 t))) wher
       let i = first (count s) fits in
       record { number = t .number; place = t .place; index = unrefused t i; position = unrefused t (row s i .offset); size = unrefused t (row s i .size) }
 
-  picked : pick idRules s (hip t) ≡ pick idRules s (hipv4 t)
+  picked : pick idRules s (hipId t) ≡ pick idRules s (hipv4Id t)
   unfolding pick pickStop chosen answer
   picked =
       ap₂ answer
-      (demand2 .by-meaning .name-broken (hip t) ∙ ap not (is-true (valid (hip t)) v ∙ sym (is-true (valid (hipv4 t)) w)) ∙ sym (demand2 .by-meaning .name-broken (hipv4 t)))
+      (demand2 .by-meaning .name-broken (hipId t) ∙ ap not (is-true (valid (hipId t)) v ∙ sym (is-true (valid (hipv4Id t)) w)) ∙ sym (demand2 .by-meaning .name-broken (hipv4Id t)))
       (λ k i. compatible-either i k)
 
 pub eitherSpelling : EitherSpelling
