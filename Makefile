@@ -130,7 +130,7 @@ gate-test:
 damage: $(TOOL) target/make-damage
 	rm -rf target/damage
 	mkdir -p target/damage
-	target/make-damage $(DAMAGED) target/damage samples/bundles/* samples/binaries/*
+	target/make-damage $(DAMAGED) target/damage samples/bundles/* samples/refused/* samples/binaries/*
 	timeout 1800 tests/damage.sh $(TOOL) target/damage $(LLVM)
 
 ##

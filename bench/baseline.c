@@ -1,10 +1,12 @@
 /* The rules for bundles, in plain C. One pass over each ID; an ID that is canonical already is used where it stands; equal IDs and equal
- * targets are found through hash tables, so that the work grows with the number of entries and not with its square. */
+ * targets are found through hash tables, so that the work grows with the number of entries and not with its square. An image below or above all
+ * earlier ones overlaps none; one between them is compared with each. */
 #include "baseline.h"
 
+#include <limits.h>
 #include <string.h>
 
-enum { OK, LENGTH, MAGIC, COUNT, TABLE, ID, RANGE, TWICE, MIXED, QUERY, NONE, BIG, ROOM };
+enum { OK, LENGTH, MAGIC, COUNT, TABLE, ID, RANGE, TWICE, MIXED, QUERY, NONE, BIG, ROOM, OVERLAP = 21 };
 enum { ENTRIES = 64, ID_LIMIT = 256, FEATURES = 8, SLOTS = 128 };
 static const uint64_t limit = 1073741824;
 static const uint8_t magic[24] = "__CLANG_OFFLOAD_BUNDLE__";
@@ -255,6 +257,51 @@ static struct refusal read_entries(struct bundle *bundle, size_t end, size_t len
     return (struct refusal){OK, 0};
 }
 
+/* Images that are not empty and share no byte: first bytes and ends. Ends are within the size limit, so an int holds them. */
+struct spans {
+    int count;
+    int starts[ENTRIES], ends[ENTRIES];
+};
+
+/* Whether an image shares a byte with one of them: no early way out, so that the compiler can take four at a time. */
+static int share_a_byte(const struct spans *spans, int start, int end) {
+    int shared = 0, k;
+    for (k = 0; k < spans->count; k++)
+        shared |= (spans->starts[k] < end) & (spans->ends[k] > start);
+    return shared;
+}
+
+static int have(const struct spans *spans, int start, int end) {
+    int k;
+    for (k = 0; k < spans->count; k++)
+        if (spans->starts[k] == start && spans->ends[k] == end)
+            return 1;
+    return 0;
+}
+
+/* 21. */
+static struct refusal compare_images(const struct bundle *bundle) {
+    struct spans spans;
+    int low = INT_MAX, high = 0;
+    uint64_t k;
+    spans.count = 0;
+    for (k = 0; k < bundle->count; k++) {
+        int start = (int)bundle->entries[k].offset, end = start + (int)bundle->entries[k].size;
+        if (start == end)
+            continue;
+        if (start < high && end > low && share_a_byte(&spans, start, end)) {
+            if (have(&spans, start, end))
+                continue;
+            return (struct refusal){OVERLAP, k};
+        }
+        low = start < low ? start : low;
+        high = end > high ? end : high;
+        spans.starts[spans.count] = start;
+        spans.ends[spans.count++] = end;
+    }
+    return (struct refusal){OK, 0};
+}
+
 /* Equal in the kind as it is compared, and in the text after it up to these ends. */
 static int same_up_to(const struct id *a, uint32_t a_end, const struct id *b, uint32_t b_end) {
     uint32_t length = a_end - a->kind_length;
@@ -322,6 +369,8 @@ static struct refusal read_bundle(const uint8_t *bytes, size_t length, struct bu
         refusal = read_table(bytes, length, bundle, &end);
     if (refusal.number == OK)
         refusal = read_entries(bundle, end, length);
+    if (refusal.number == OK)
+        refusal = compare_images(bundle);
     if (refusal.number == OK)
         refusal = compare_entries(bundle);
     return refusal;

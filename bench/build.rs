@@ -1,4 +1,4 @@
-//! Compiles the baseline with `gcc -O3`, and where LLVM's headers are installed a reader that calls LLVM's library.
+//! Compiles the baseline with `gcc -O3`, its functions and loops aligned, and where LLVM's headers are installed a reader that calls LLVM's library.
 
 use std::env;
 use std::process::Command;
@@ -7,8 +7,10 @@ fn main() {
     let folder = env::var("OUT_DIR").expect("cargo sets it");
     for source in ["baseline", "baseline_binaries"] {
         let object = format!("{folder}/{source}.o");
+        // Where the linker puts a loop would otherwise change its time by a fifth.
         run(Command::new("gcc")
-            .args(["-std=gnu99", "-O3", "-Wall", "-Wextra", "-Werror", "-o", &object, "-c"])
+            .args(["-std=gnu99", "-O3", "-falign-functions=64", "-falign-loops=32"])
+            .args(["-Wall", "-Wextra", "-Werror", "-o", &object, "-c"])
             .arg(format!("{source}.c")));
         run(Command::new("ar").args(["rcs", &format!("{folder}/libbaseline.a"), &object]));
         println!("cargo:rerun-if-changed={source}.c");

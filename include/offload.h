@@ -64,7 +64,8 @@ extern "C" {
  * device name with either gets an entry with either, and a bundle that has one entry in both spellings is refused. Any
  * other two kinds differ. A canonical form, and so a normal form, keeps the kind as it is spelled. */
 
-/* The numbers that calls return, in the order in which they are tried: the first that applies is returned. */
+/* The numbers that calls return. They are tried in this order, 21 after 6 and before 7: the first that applies is
+ * returned. */
 enum offload_number {
     OFFLOAD_OK = 0,       /* accepted */
     OFFLOAD_LENGTH = 1,   /* the container is longer than OFFLOAD_LIMIT bytes */
@@ -73,6 +74,7 @@ enum offload_number {
     OFFLOAD_TABLE = 4,    /* an entry's row or its ID is not wholly inside, or the ID has 0 or above 256 bytes */
     OFFLOAD_ID = 5,       /* an entry ID breaks the rules */
     OFFLOAD_RANGE = 6,    /* an image starts before the end of the table or ends after the end of the container */
+    OFFLOAD_OVERLAP = 21, /* an image shares a byte with an earlier entry's and is not the same span */
     OFFLOAD_TWICE = 7,    /* an earlier entry has the same meaning */
     OFFLOAD_MIXED = 8,    /* an earlier entry of equal kind, triple and processor states other feature names */
     OFFLOAD_QUERY = 9,    /* the device name breaks the rules of IDs */
@@ -91,18 +93,19 @@ enum offload_number {
     OFFLOAD_END = 19      /* every binary has been read */
 };
 
-/* The name of a number: "OK", "LENGTH", .., "END"; "UNKNOWN" for any other number. */
+/* The name of a number: "OK", "LENGTH", .., "END", "OVERLAP"; "UNKNOWN" for a number that is not above. */
 OFFLOAD_INLINE const char *offload_name(uint64_t number) {
     static const char *const names[] = {
         "OK",   "LENGTH", "MAGIC", "COUNT", "TABLE", "ID",   "RANGE",   "TWICE", "MIXED", "QUERY",
         "NONE", "BIG",    "ROOM",  "HEAD",  "SPAN",  "KIND", "STRINGS", "IMAGE", "MANY",  "END",
+        "UNKNOWN", /* 20 is not in use */ "OVERLAP",
     };
     return number < sizeof names / sizeof *names ? names[number] : "UNKNOWN";
 }
 
 /* Check a bundle.
- * number: OFFLOAD_OK, or 1 to 8.
- * place: for 4 to 8 the lowest index of an entry that the refusal applies to, else 0. Indices count from 0.
+ * number: OFFLOAD_OK, 1 to 8, or 21.
+ * place: for 4 to 8 and 21 the lowest index of an entry that the refusal applies to, else 0. Indices count from 0.
  * count: how many entries the bundle has. */
 uint64_t offload_check_number(const uint8_t *bundle, size_t bundle_length);
 uint64_t offload_check_place(const uint8_t *bundle, size_t bundle_length);
@@ -123,7 +126,7 @@ OFFLOAD_INLINE struct offload_check_answer offload_check(const uint8_t *bundle, 
 }
 
 /* Look at one entry of a bundle, by its index.
- * number: OFFLOAD_OK, 1 to 8 as the check returns them, or OFFLOAD_NONE where the index is not below the count.
+ * number: OFFLOAD_OK, 1 to 8 or 21 as the check returns them, or OFFLOAD_NONE where the index is not below the count.
  * place: as the check returns it, 0 for OFFLOAD_NONE.
  * position, size: the entry's image, bytes position to position + size of the bundle.
  * id_position, id_length: the entry's ID as it is spelled in the bundle. */
@@ -154,7 +157,7 @@ OFFLOAD_INLINE struct offload_entry_answer offload_entry(const uint8_t *bundle, 
 
 /* Pick the image for a device, such as "hip-amdgcn-amd-amdhsa--gfx906:sramecc+:xnack-": that of the one entry which is
  * compatible with the device name. The pick checks the bundle itself.
- * number: OFFLOAD_OK, 1 to 8 as the check returns them, OFFLOAD_QUERY or OFFLOAD_NONE.
+ * number: OFFLOAD_OK, 1 to 8 or 21 as the check returns them, OFFLOAD_QUERY or OFFLOAD_NONE.
  * place: as the check returns it, 0 for OFFLOAD_QUERY and OFFLOAD_NONE.
  * index: the entry.
  * position, size: its image, bytes position to position + size of the bundle, all inside it. An image may be empty. */
@@ -188,14 +191,14 @@ OFFLOAD_INLINE struct offload_pick_answer offload_pick(const uint8_t *bundle, si
  * is spelled, so that hip and hipv4 are two. A normal form is accepted, is its own normal form, and every pick from it
  * gives the image or the refusal that the bundle gives. It keeps no alignment of images: copy an image to aligned
  * memory where that is needed.
- * number: OFFLOAD_OK, 1 to 8 as the check returns them, OFFLOAD_BIG or OFFLOAD_ROOM.
+ * number: OFFLOAD_OK, 1 to 8 or 21 as the check returns them, OFFLOAD_BIG or OFFLOAD_ROOM.
  * place: as the check returns it, 0 for OFFLOAD_BIG and OFFLOAD_ROOM.
  * length: how many bytes are written at the start of out, at least 32; what lies beyond is unchanged.
  *
  * Room: a normal form takes 32 bytes and, for each entry, 24, the length of its canonical ID and the size of its image.
  * A canonical ID is longer than the ID by two dashes at most, so bundle_length + 2 * OFFLOAD_ENTRIES is enough unless
- * images share bytes. Always enough are 32 and, for each entry as offload_entry gives it, 26 + id_length + size; or,
- * without looking at entries, the lesser of OFFLOAD_LIMIT and OFFLOAD_ENTRIES * (bundle_length + 2). */
+ * entries share one image. Always enough are 32 and, for each entry as offload_entry gives it, 26 + id_length + size;
+ * or, without looking at entries, the lesser of OFFLOAD_LIMIT and OFFLOAD_ENTRIES * (bundle_length + 2). */
 uint64_t offload_normalise_number(const uint8_t *bundle, size_t bundle_length, uint8_t *out, size_t out_length);
 uint64_t offload_normalise_place(const uint8_t *bundle, size_t bundle_length, uint8_t *out, size_t out_length);
 uint64_t offload_normalise_length(const uint8_t *bundle, size_t bundle_length, uint8_t *out, size_t out_length);

@@ -1,10 +1,10 @@
 #!/usr/bin/env bash
-# Makes images/, bundles/ and binaries/ again, byte for byte, with Debian's clang-19, clang-tools-19 and lld-19 (1:19.1.7-3~deb12u1), and
+# Makes images/, bundles/, binaries/ and refused/ again, byte for byte, with Debian's clang-19, clang-tools-19 and lld-19 (1:19.1.7-3~deb12u1), and
 # bundles/five-fields.bundle with Debian's clang-tools-14 (1:14.0.6-12). The files are committed: no test runs this.
 set -eu
 cd "$(dirname "$0")"
-rm -rf images bundles binaries
-mkdir images bundles binaries
+rm -rf images bundles binaries refused
+mkdir images bundles binaries refused
 
 # Device images. amd NAME TARGET-ID: a code object of the kernel for that processor.
 amd() {
@@ -74,6 +74,14 @@ clang-offload-bundler-14 -type=o \
   -targets=host-x86_64-unknown-linux-gnu,hip-amdgcn-amd-amdhsa-gfx906:sramecc-:xnack+,hip-amdgcn-amd-amdhsa-gfx906:sramecc+:xnack+,openmp-amdgcn-amd-amdhsa-gfx1030 \
   -inputs=/dev/null,images/gfx906-sramecc-xnack+.o,images/gfx906-sramecc+xnack+.o,images/gfx1030.o \
   -outputs=bundles/five-fields.bundle
+
+# A bundle that is refused: the size of the host's image, 2692 in the bytes from 40 on, is made one more, so that it takes in the first byte of the other.
+clang-offload-bundler-19 -type=bc \
+  -targets=host-x86_64-unknown-linux-gnu,openmp-nvptx64-nvidia-cuda--sm_70 \
+  -input=images/host.bc \
+  -input=images/sm_70.s \
+  -output=refused/overlap.bundle
+printf '\x85' | dd of=refused/overlap.bundle bs=1 seek=40 conv=notrunc status=none
 
 # Offload binaries.
 clang-offload-packager-19 -o binaries/one.bin \

@@ -7,7 +7,7 @@
 #include <stdlib.h>
 #include <string.h>
 
-enum { IMAGE = 5, SPACE = 8192, OTHER = 7 };
+enum { IMAGE = 5, BODY = 10, SPACE = 8192, OTHER = 7 };
 
 static const char host[] = "host-x86_64-unknown-linux-gnu", card[] = "hip-amdgcn-amd-amdhsa-gfx906:xnack-";
 
@@ -102,8 +102,13 @@ static void put_word(uint8_t *out, uint64_t value) {
         out[i] = (uint8_t)(value >> (8 * i));
 }
 
-/* A table with these IDs; image i is at the table's end and `step` bytes on for each i. The table's end. */
-static size_t make_table(uint8_t *out, size_t count, const char *const *ids, size_t size, size_t step) {
+/* An image: its size, and how many bytes after the table's end it starts. */
+struct span {
+    size_t start, size;
+};
+
+/* A table with these IDs and images. The table's end. */
+static size_t make_table(uint8_t *out, size_t count, const char *const *ids, const struct span *images) {
     size_t i, end = 32, at = 32;
     for (i = 0; i < count; i++)
         end += 24 + strlen(ids[i]);
@@ -111,8 +116,8 @@ static size_t make_table(uint8_t *out, size_t count, const char *const *ids, siz
     put_word(out + 24, count);
     for (i = 0; i < count; i++) {
         size_t length = strlen(ids[i]);
-        put_word(out + at, end + i * step);
-        put_word(out + at + 8, size);
+        put_word(out + at, end + images[i].start);
+        put_word(out + at + 8, images[i].size);
         put_word(out + at + 16, length);
         memcpy(out + at + 24, ids[i], length);
         at += 24 + length;
@@ -122,18 +127,19 @@ static size_t make_table(uint8_t *out, size_t count, const char *const *ids, siz
 
 /* Two entries, with images of 5 bytes, packed. The length. */
 static size_t make_two(uint8_t *out, const char *id0, const char *image0, const char *id1, const char *image1) {
+    static const struct span images[2] = {{0, IMAGE}, {IMAGE, IMAGE}};
     const char *ids[2];
     size_t end;
     ids[0] = id0;
     ids[1] = id1;
-    end = make_table(out, 2, ids, IMAGE, IMAGE);
+    end = make_table(out, 2, ids, images);
     memcpy(out + end, image0, IMAGE);
     memcpy(out + end + IMAGE, image1, IMAGE);
     return end + 2 * IMAGE;
 }
 
-/* `count` entries that share one image of this size. The table's end. */
-static size_t make_many(uint8_t *out, size_t count, size_t size) {
+/* `count` entries with these images. The table's end. */
+static size_t make_many(uint8_t *out, size_t count, const struct span *images) {
     static char texts[OFFLOAD_ENTRIES + 1][16];
     const char *ids[OFFLOAD_ENTRIES + 1];
     size_t i;
@@ -141,7 +147,18 @@ static size_t make_many(uint8_t *out, size_t count, size_t size) {
         sprintf(texts[i], "host-a%02u-b-c", (unsigned)i);
         ids[i] = texts[i];
     }
-    return make_table(out, count, ids, size, 0);
+    return make_table(out, count, ids, images);
+}
+
+/* `count` entries that share one image of this size. The table's end. */
+static size_t make_shared(uint8_t *out, size_t count, size_t size) {
+    struct span images[OFFLOAD_ENTRIES + 1];
+    size_t i;
+    for (i = 0; i < count; i++) {
+        images[i].start = 0;
+        images[i].size = size;
+    }
+    return make_many(out, count, images);
 }
 
 /* A canonical ID of this length. */
@@ -195,7 +212,8 @@ static void two_entries(void) {
 
 /* One entry of this ID. The length. */
 static size_t make_one(uint8_t *out, const char *id) {
-    size_t end = make_table(out, 1, &id, IMAGE, 0);
+    static const struct span image = {0, IMAGE};
+    size_t end = make_table(out, 1, &id, &image);
     memcpy(out + end, "IMAGE", IMAGE);
     return end + IMAGE;
 }
@@ -223,6 +241,135 @@ static void kinds(void) {
     check("two kinds", bundle, make_two(bundle, hip, "ONE..", "openmp-a-b-c--gfx906", "TWO.."), OFFLOAD_OK, 0, 2);
 }
 
+/* Where images may lie, in bundles of two entries that have BODY bytes after the table. */
+
+static const char *const two_ids[2] = {"hip-a-b-c--gfx1", "hip-a-b-c--gfx2"};
+
+/* Every call accepts, and gives these images. */
+static void accepted_images(const char *what, const struct span *images) {
+    static uint8_t bundle[SPACE], normal[SPACE];
+    struct span packed[2] = {{0, 0}, {0, 0}};
+    size_t end = make_table(bundle, 2, two_ids, images), length = end + BODY, i;
+    packed[0].size = packed[1].start = images[0].size;
+    packed[1].size = images[1].size;
+    memcpy(bundle + end, "0123456789", BODY);
+    make_table(normal, 2, two_ids, packed);
+    check(what, bundle, length, OFFLOAD_OK, 0, 2);
+    for (i = 0; i < 2; i++) {
+        size_t position = end + images[i].start, size = images[i].size;
+        entry(what, bundle, length, i, OFFLOAD_OK, 0, position, size, 56 + 39 * i, 15);
+        pick(what, bundle, length, two_ids[i], OFFLOAD_OK, 0, i, position, size);
+        memcpy(normal + end + packed[i].start, bundle + position, size);
+    }
+    normalise(what, bundle, length, SPACE, OFFLOAD_OK, 0, normal, end + images[0].size + images[1].size);
+}
+
+/* Every call refuses entry 1, before it asks more than the check does. */
+static void refused_images(const char *what, const struct span *images, uint64_t number) {
+    static uint8_t bundle[SPACE];
+    size_t length = make_table(bundle, 2, two_ids, images) + BODY;
+    check(what, bundle, length, number, 1, 0);
+    entry(what, bundle, length, 0, number, 1, 0, 0, 0, 0);
+    entry(what, bundle, length, 2, number, 1, 0, 0, 0, 0);
+    pick(what, bundle, length, two_ids[0], number, 1, 0, 0, 0);
+    pick(what, bundle, length, "hip-a-b-c--gfx3", number, 1, 0, 0, 0);
+    pick(what, bundle, length, "", number, 1, 0, 0, 0);
+    normalise(what, bundle, length, SPACE, number, 1, bundle, 0);
+    normalise(what, bundle, length, 0, number, 1, bundle, 0);
+}
+
+static void two_images(void) {
+    static const struct {
+        const char *what;
+        struct span images[2];
+        int overlap;
+    } cases[] = {
+        {"the same span", {{2, 4}, {2, 4}}, 0},
+        {"the same byte", {{9, 1}, {9, 1}}, 0},
+        {"touching", {{2, 4}, {6, 4}}, 0},
+        {"touching bytes", {{4, 1}, {5, 1}}, 0},
+        {"a gap", {{0, 4}, {5, 5}}, 0},
+        {"empty inside", {{2, 4}, {4, 0}}, 0},
+        {"empty at the start", {{2, 4}, {2, 0}}, 0},
+        {"empty at the end", {{0, 10}, {10, 0}}, 0},
+        {"both empty", {{3, 0}, {3, 0}}, 0},
+        {"one byte in common", {{2, 4}, {5, 4}}, 1},
+        {"one byte not in common", {{2, 4}, {3, 4}}, 1},
+        {"inside", {{2, 4}, {3, 2}}, 1},
+        {"the same start", {{2, 4}, {2, 3}}, 1},
+        {"the same end", {{2, 4}, {3, 3}}, 1},
+        {"the first byte of all", {{0, 10}, {0, 1}}, 1},
+        {"the last byte of all", {{0, 10}, {9, 1}}, 1},
+    };
+    static const struct span outside[2] = {{2, 4}, {5, 6}}, wraps[2] = {{2, 4}, {3, SIZE_MAX}};
+    size_t i;
+    for (i = 0; i < sizeof cases / sizeof *cases; i++) {
+        struct span turned[2];
+        turned[0] = cases[i].images[1];
+        turned[1] = cases[i].images[0];
+        if (cases[i].overlap) {
+            refused_images(cases[i].what, cases[i].images, OFFLOAD_OVERLAP);
+            refused_images(cases[i].what, turned, OFFLOAD_OVERLAP);
+        } else {
+            accepted_images(cases[i].what, cases[i].images);
+            accepted_images(cases[i].what, turned);
+        }
+    }
+    refused_images("one byte in common, and past the end", outside, OFFLOAD_RANGE);
+    refused_images("a sum that wraps", wraps, OFFLOAD_RANGE);
+}
+
+/* Three entries, the last with this image: each number is tried over all of them before the next. */
+static void three_images(const char *what, const char *id0, const char *id1, const char *id2, size_t start, size_t size, uint64_t number, uint64_t place) {
+    static uint8_t bundle[SPACE];
+    struct span images[3] = {{0, 4}, {4, 3}, {0, 0}};
+    const char *ids[3];
+    ids[0] = id0;
+    ids[1] = id1;
+    ids[2] = id2;
+    images[2].start = start;
+    images[2].size = size;
+    check(what, bundle, make_table(bundle, 3, ids, images) + BODY, number, place, 0);
+}
+
+static void order(void) {
+    const char *one = two_ids[0], *two = two_ids[1];
+    three_images("ID before OVERLAP", one, two, "host-a-b", 6, 2, OFFLOAD_ID, 2);
+    three_images("RANGE before OVERLAP", one, two, host, 6, BODY, OFFLOAD_RANGE, 2);
+    three_images("OVERLAP before TWICE", one, one, host, 6, 2, OFFLOAD_OVERLAP, 2);
+    three_images("OVERLAP before MIXED", one, "hip-a-b-c--gfx1:xnack-", host, 6, 2, OFFLOAD_OVERLAP, 2);
+    three_images("TWICE, and images that touch", one, one, host, 7, 2, OFFLOAD_TWICE, 1);
+    three_images("OVERLAP, not with the entry before", one, two, host, 0, 3, OFFLOAD_OVERLAP, 2);
+}
+
+/* As many images as there can be, packed in one of four orders. Then each in turn is moved by a byte, onto the next; the later entry is the place. */
+static void many_images(void) {
+    static uint8_t bundle[SPACE];
+    struct span images[OFFLOAD_ENTRIES];
+    size_t last = OFFLOAD_ENTRIES - 1, way, i, next, length;
+    for (way = 0; way < 4; way++) {
+        for (i = 0; i <= last; i++) {
+            size_t scattered = i * 37 % OFFLOAD_ENTRIES, inwards = i % 2 == 0 ? i / 2 : last - i / 2;
+            images[i].start = IMAGE * (way == 0 ? i : way == 1 ? last - i : way == 2 ? scattered : inwards);
+            images[i].size = IMAGE;
+        }
+        length = make_many(bundle, OFFLOAD_ENTRIES, images) + OFFLOAD_ENTRIES * IMAGE + 1;
+        check("many images", bundle, length, OFFLOAD_OK, 0, OFFLOAD_ENTRIES);
+        for (i = 0; i <= last; i++) {
+            next = 0;
+            while (next <= last && images[next].start != images[i].start + IMAGE)
+                next++;
+            images[i].start++;
+            make_many(bundle, OFFLOAD_ENTRIES, images);
+            images[i].start--;
+            if (next <= last)
+                check("one of many images moved", bundle, length, OFFLOAD_OVERLAP, i > next ? i : next, 0);
+            else
+                check("the last of many images moved", bundle, length, OFFLOAD_OK, 0, OFFLOAD_ENTRIES);
+        }
+    }
+}
+
 static void limits(void) {
     static uint8_t bundle[SPACE];
     size_t length = make_two(bundle, host, "HOST.", long_id(OFFLOAD_ID_LIMIT), "CARD."), large = 17 << 20, end;
@@ -231,16 +378,16 @@ static void limits(void) {
     pick("the longest name", bundle, length, long_id(OFFLOAD_ID_LIMIT), OFFLOAD_OK, 0, 1, length - IMAGE, IMAGE);
     pick("a name too long", bundle, length, long_id(OFFLOAD_ID_LIMIT + 1), OFFLOAD_QUERY, 0, 0, 0, 0);
     check("an ID too long", bundle, make_two(bundle, host, "HOST.", long_id(OFFLOAD_ID_LIMIT + 1), "CARD."), OFFLOAD_TABLE, 1, 0);
-    check("the most entries", bundle, make_many(bundle, OFFLOAD_ENTRIES, 0), OFFLOAD_OK, 0, OFFLOAD_ENTRIES);
-    check("an entry too many", bundle, make_many(bundle, OFFLOAD_ENTRIES + 1, 0), OFFLOAD_COUNT, 0, 0);
+    check("the most entries", bundle, make_shared(bundle, OFFLOAD_ENTRIES, 0), OFFLOAD_OK, 0, OFFLOAD_ENTRIES);
+    check("an entry too many", bundle, make_shared(bundle, OFFLOAD_ENTRIES + 1, 0), OFFLOAD_COUNT, 0, 0);
 
     many = (uint8_t *)calloc(OFFLOAD_LIMIT + 1, 1); /* zeros that are hardly ever looked at */
     if (many == NULL)
         exit(3);
     check("the longest container", many, OFFLOAD_LIMIT, OFFLOAD_MAGIC, 0, 0);
     check("a byte too long", many, OFFLOAD_LIMIT + 1, OFFLOAD_LENGTH, 0, 0);
-    end = make_many(many, OFFLOAD_ENTRIES, large);
-    check("images that share bytes", many, end + large, OFFLOAD_OK, 0, OFFLOAD_ENTRIES);
+    end = make_shared(many, OFFLOAD_ENTRIES, large);
+    check("entries that share one image", many, end + large, OFFLOAD_OK, 0, OFFLOAD_ENTRIES);
     normalise("a normal form too long", many, end + large, 0, OFFLOAD_BIG, 0, many, 0);
     free(many);
 }
@@ -272,6 +419,8 @@ static void names(void) {
     named(OFFLOAD_MANY, "MANY");
     named(OFFLOAD_END, "END");
     named(OFFLOAD_END + 1, "UNKNOWN");
+    named(OFFLOAD_OVERLAP, "OVERLAP");
+    named(OFFLOAD_OVERLAP + 1, "UNKNOWN");
     named(UINT64_MAX, "UNKNOWN");
     sprintf(version, "%d.%d.%d", OFFLOAD_VERSION_MAJOR, OFFLOAD_VERSION_MINOR, OFFLOAD_VERSION_PATCH);
     expect("version", version, (uint64_t)strcmp(version, OFFLOAD_VERSION), 0);
@@ -280,6 +429,9 @@ static void names(void) {
 int main(void) {
     two_entries();
     kinds();
+    two_images();
+    order();
+    many_images();
     limits();
     names();
     return wrong;

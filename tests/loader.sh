@@ -2,6 +2,7 @@
 # Runs the smallest loader: tests/loader.sh LOADER
 set -eu
 samples=$(dirname "$0")/../samples/bundles
+overlap=$(dirname "$0")/../samples/refused/overlap.bundle
 damaged=$(mktemp)
 trap 'rm -f "$damaged"' EXIT
 head -c -1 "$samples/three-cards.bundle" >"$damaged"
@@ -16,6 +17,7 @@ diff <(
   answer "$1" "$samples/driver.bundle" openmp-amdgcn-amd-amdhsa--gfx1030
   answer "$1" "$damaged" hip-amdgcn-amd-amdhsa--gfx906:sramecc+:xnack-
   answer "$1" "$damaged" hip-amdgcn-amd-amdhsa--gfx906
+  answer "$1" "$overlap" openmp-nvptx64-nvidia-cuda--sm_70
   answer "$1" "$samples/three-cards.bundle" gfx906
   answer "$1" /dev/null hip-amdgcn-amd-amdhsa--gfx906
   answer "$1" missing hip-amdgcn-amd-amdhsa--gfx906
@@ -33,6 +35,8 @@ refused: 6 RANGE
 status 1
 refused: 6 RANGE
 status 1
+refused: 21 OVERLAP
+status 1
 refused: 9 QUERY
 status 1
 refused: 2 MAGIC
@@ -40,4 +44,4 @@ status 1
 status 3
 status 3
 TEXT
-echo 'loader: 12 answers as expected'
+echo 'loader: 13 answers as expected'

@@ -5,6 +5,7 @@ export LC_ALL=C
 offload=$(realpath "$1")
 top=$(realpath "$(dirname "$0")/..")
 samples=$top/samples
+accepted=("$samples"/bundles/*)
 cards=$samples/bundles/three-cards.bundle
 fields=$samples/bundles/five-fields.bundle
 folder=$(mktemp -d)
@@ -20,14 +21,24 @@ word() {
   printf "$(printf '\\x%02x\\x%02x\\x%02x\\x%02x' $(($1 & 255)) $(($1 >> 8 & 255)) $(($1 >> 16 & 255)) $(($1 >> 24 & 255)))\0\0\0\0"
 }
 
-# bundle SIZE ID..: the table of a bundle whose entries share one image of this size.
+# bundle IMAGES ID..: the table of a bundle. IMAGES has a word for each entry: SIZE, of an image at the table's end, or START+SIZE, of one that starts
+# so many bytes after it. Entries beyond the last word share its image.
 bundle() {
-  local id end=32 size=$1
+  local id image size images i=0 end=32
+  read -ra images <<<"$1"
   shift
   for id in "$@"; do end=$((end + 24 + ${#id})); done
   printf '__CLANG_OFFLOAD_BUNDLE__'
   word $#
-  for id in "$@"; do word "$end"; word "$size"; word ${#id}; printf %s "$id"; done
+  for id in "$@"; do
+    image=${images[i]-$image}
+    size=${image#*+}
+    word $((end + ${image%"$size"}0))
+    word "$size"
+    word ${#id}
+    printf %s "$id"
+    i=$((i + 1))
+  done
 }
 
 # Help and version.
@@ -318,7 +329,7 @@ bundle 0 >none
 expect 4 'INDEX  ID  REASON' '' explain none host-a-b-c
 expect 4 '' '' explain none host-a-b-c --json
 # It says what pick says.
-for sample in "$samples"/bundles/*; do
+for sample in "${accepted[@]}"; do
   while read -r device; do
     if picked=$("$offload" pick "$sample" "$device" 2>../error); then
       index=${picked%%,*}
@@ -360,8 +371,8 @@ expect 0 '{"file":"b\\\\xff\\"\\\\\\u000a","number":0,*}' '' check --json "$name
 rm ./*
 
 # Normal forms: accepted, their own normal form, and with the same images.
-for sample in three-cards aligned driver kinds host-only five-fields; do
-  expect 0 'written, length *' '' normalise "$samples/bundles/$sample.bundle" -o normal
+for sample in "${accepted[@]}"; do
+  expect 0 'written, length *' '' normalise "$sample" -o normal
   expect 0 'accepted, entries [1-8]' '' check normal
   expect 0 "written, length $(stat -c %s normal)" '' normalize normal -o again
   same again normal
@@ -388,6 +399,90 @@ expect 1 "$(object big 11 BIG)" '' normalise big -o out --json
 head -c -1 shared >short
 expect 1 '' "$(refusal short '6 RANGE' 'entry 0 "host-a10-b-c" (offset 2336, size 5 in a file of 2340 bytes)')" normalise short -o out
 holds big image normal shared short
+rm ./*
+
+# Images that overlap: the entry and the earlier one are named, with where their images lie. Whichever of the two comes first, the second is the entry.
+one=hip-a-b-c--gfx1
+two=hip-a-b-c--gfx2
+end=$((32 + 2 * (24 + ${#one})))
+digits=0123456789
+sentence="An earlier entry has an image that shares bytes with this one's and is not the same span."
+advice='The file is damaged or was made by a faulty program: copy it, or make it again with images that lie apart.'
+printf kept >out
+cp out kept
+# images IMAGES ID..: a bundle whose images are digits.
+images() {
+  bundle "$@"
+  printf %s $digits
+}
+# span START+SIZE: where an image lies, of two entries.
+span() {
+  echo "offset $((end + ${1%+*})), size ${1#*+}"
+}
+# overlap FIRST SECOND
+overlap() {
+  local text keys
+  images "$1 $2" $one $two >over
+  text="offload: over: 21 OVERLAP, entry 1 \"$two\" ($(span "$2") in a file of $((end + 10)) bytes): $sentence It is entry 0 \"$one\" ($(span "$1"))."
+  text+=$'\n'"  $advice"
+  keys="\"place\":1,\"id\":\"$two\",\"offset\":$((end + ${2%+*})),\"size\":${2#*+},"
+  keys+="\"earlier\":0,\"earlier_id\":\"$one\",\"earlier_offset\":$((end + ${1%+*})),\"earlier_size\":${1#*+},"
+  expect 1 '' "$text" check over
+  expect 1 '' "$text" list over
+  expect 1 '' "$text" explain over $one
+  expect 1 '' "$text$left" pick over $one -o out
+  expect 1 '' "$text$left" normalise over -o out
+  expect 1 '' "$text" normalise over -o -
+  expect 1 "$(object over 21 OVERLAP "$keys")" '' check over --json
+  expect 1 "$(object over 21 OVERLAP "$keys")" '' normalise over -o new --json
+}
+# One byte in common, inside or around, one end in common.
+for pair in '2+4 5+4' '2+4 3+2' '2+4 2+3' '2+4 3+3' '0+10 9+1' '0+10 0+1'; do
+  overlap "${pair% *}" "${pair#* }"
+  overlap "${pair#* }" "${pair% *}"
+done
+same out kept
+cp over kept
+expect 1 '' "$(refusal over '21 OVERLAP' 'entry 1 *')"$'\n  over is left as it was.' normalise over -o over
+same over kept
+expect 1 '' "$(refusal 'standard input' '21 OVERLAP' 'entry 1 *')" check - < <(cat over)
+holds kept out over
+# The same span, images that touch, and an empty one inside another or at its end are accepted.
+for pair in '2+4 2+4' '2+4 6+4' '6+4 2+4' '2+4 4+0' '4+0 2+4' '2+4 2+0' '2+4 6+0' '3+0 3+0' '0+10 10+0'; do
+  first=${pair% *}
+  second=${pair#* }
+  images "$pair" $one $two >apart
+  expect 0 'accepted, entries 2' '' check apart
+  expect 0 "entry 0, $(span "$first")" '' pick apart $one -o out
+  is 'the first image' "$(<out)" "${digits:${first%+*}:${first#*+}}"
+  expect 0 "entry 1, $(span "$second")" '' pick apart $two -o out
+  is 'the second image' "$(<out)" "${digits:${second%+*}:${second#*+}}"
+  expect 0 "written, length $((end + ${first#*+} + ${second#*+}))" '' normalise apart -o normal
+  expect 0 'accepted, entries 2' '' check normal
+done
+# The lowest index whose image overlaps that of any earlier entry; the first such earlier entry is named.
+images '4+2 0+1 8+1 6+1 3+2 0+9' host-a-b-{c,d,e,f,g,h} >places
+expect 1 '' "$(refusal places '21 OVERLAP' 'entry 4 "host-a-b-g" (offset *, size 2 in *)' 'It is entry 0 "host-a-b-c" (*, size 2).')" check places
+images '9+1 4+2 0+1 0+6' host-a-b-{c,d,e,f} >places
+expect 1 '' "$(refusal places '21 OVERLAP' 'entry 3 "host-a-b-f" (offset *, size 6 in *)' 'It is entry 1 "host-a-b-d" (*, size 2).')" check places
+# After ID and RANGE, before TWICE, MIXED, QUERY, NONE and BIG, whatever their places are.
+images '0+4 3+4 8+1' host-a-b-c host-a-b-d host-a-b >order
+expect 1 '' "$(refusal order '5 ID' 'entry 2 "host-a-b"')" check order
+images '0+4 3+4 8+3' host-a-b-{c,d,e} >order
+expect 1 '' "$(refusal order '6 RANGE' 'entry 2 "host-a-b-e" (*)')" check order
+images '0+4 4+4 7+3' host-a-b-c host-a-b-c- host-a-b-d >order
+expect 1 '' "$(refusal order '21 OVERLAP' 'entry 2 "host-a-b-d" (*)' 'It is entry 1 "host-a-b-c-" (*).')" check order
+images '0+4 4+4 7+3' $one $one:xnack+ host-a-b-d >order
+expect 1 '' "$(refusal order '21 OVERLAP' 'entry 2 "host-a-b-d" (*)' "It is entry 1 \"$one:xnack+\" (*).")" check order
+expect 1 '' "$(refusal over '21 OVERLAP' 'entry 1 *')" pick over gfx1
+expect 1 '' "$(refusal over '21 OVERLAP' 'entry 1 *')" pick over host-a-b-c
+bundle "1+$((17 << 20)) $((17 << 20))" "${ids[@]}" >order
+truncate -s $((18 << 20)) order
+expect 1 '' "$(refusal order '21 OVERLAP' 'entry 1 *')" normalise order -o new
+# A real bundle in which the first image is a byte too long.
+expect 1 '' "$(refusal '*/overlap.bundle' '21 OVERLAP' 'entry 1 "openmp-nvptx64-nvidia-cuda--sm_70" (offset 2835, size 1750 in a file of 4585 bytes)' \
+  'It is entry 0 "host-x86_64-unknown-linux-gnu-" (offset 143, size 2693).')" check "$samples/refused/overlap.bundle"
+holds apart kept normal order out over places
 rm ./*
 
 # hip and hipv4 are one kind to check, whichever comes first.

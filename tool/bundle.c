@@ -64,7 +64,7 @@ enum status pick(const struct request *request) {
 }
 
 /* Makes the normal form of a bundle that lacks nothing but room, in memory of its own; null where there is not enough.
- * An ID grows by two dashes at most, so the first room is enough unless images share bytes; then it is doubled. */
+ * An ID grows by two dashes at most, so the first room is enough unless entries share one image; then it is doubled. */
 static uint8_t *normal_form(struct bytes bundle, size_t *length) {
     size_t room = bundle.length + 2 * OFFLOAD_ENTRIES;
     for (;; room *= 2) {

@@ -40,6 +40,8 @@ static void print_finding(const struct request *request, const struct finding *f
     if (finding->has_earlier) {
         fprintf(stderr, " It is entry %" PRIu64 " ", finding->earlier);
         print_quoted(stderr, finding->earlier_row.id);
+        if (finding->refusal.names == NAMES_IMAGE)
+            fprintf(stderr, " (offset %" PRIu64 ", size %" PRIu64 ")", finding->earlier_row.offset, finding->earlier_row.size);
         putc('.', stderr);
     }
     if (finding->looks.like != NULL)
@@ -58,6 +60,10 @@ static void put_row(struct json *object, const struct finding *finding) {
     if (finding->has_earlier) {
         json_number(object, "earlier", finding->earlier);
         json_bytes(object, "earlier_id", finding->earlier_row.id);
+    }
+    if (finding->has_earlier && finding->refusal.names == NAMES_IMAGE) {
+        json_number(object, "earlier_offset", finding->earlier_row.offset);
+        json_number(object, "earlier_size", finding->earlier_row.size);
     }
 }
 

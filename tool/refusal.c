@@ -29,6 +29,13 @@ static int other_names(struct row earlier, struct row row) {
     return cut_both(earlier, row, &pair) && !same_names(pair.left.features, pair.right.features);
 }
 
+/* No sum wraps: RANGE is tried first. */
+static int shares_bytes(struct row earlier, struct row row) {
+    int same_span = earlier.offset == row.offset && earlier.size == row.size;
+    int apart = earlier.offset + earlier.size <= row.offset || row.offset + row.size <= earlier.offset;
+    return earlier.size > 0 && row.size > 0 && !same_span && !apart;
+}
+
 static const char again[] = "The file is cut short or damaged: copy it or make it again.";
 
 static const struct refusal refusals[] = {
@@ -40,6 +47,8 @@ static const struct refusal refusals[] = {
     [OFFLOAD_ID] = {NAMES_ID, "The ID of the entry is not written as an entry ID must be.",
                     "Make the bundle again with an ID that keeps the rules: offload help id.", NULL},
     [OFFLOAD_RANGE] = {NAMES_IMAGE, "The image of the entry begins inside the table or ends after the end of the file.", again, NULL},
+    [OFFLOAD_OVERLAP] = {NAMES_IMAGE, "An earlier entry has an image that shares bytes with this one's and is not the same span.",
+                         "The file is damaged or was made by a faulty program: copy it, or make it again with images that lie apart.", shares_bytes},
     [OFFLOAD_TWICE] = {NAMES_ID, "An earlier entry has the same meaning (hip and hipv4 are one kind).", "Make the bundle again with one of the two.",
                        same_meaning},
     [OFFLOAD_MIXED] = {NAMES_ID, "An earlier entry of the same kind (hip and hipv4 are one), triple and processor states other feature names.",

@@ -48,10 +48,21 @@ fn copy(bundle: &[u8]) -> Vec<Timed> {
     time(Whose::Thread, vec![library, plain, memcpy])
 }
 
+/// Where the image of each of 64 entries lies.
+type Place = fn(usize) -> usize;
+
+const PLACES: &[(&str, Place)] = &[
+    ("check, images in falling order", |entry| 63 - entry),
+    ("check, images in hostile order", |entry| if entry % 2 == 0 { entry / 2 } else { 63 - entry / 2 }),
+    ("check of one image", |_| 0),
+];
+
 pub fn jobs() {
     let table = Table::new(
         "Check, pick, entry and normalise",
-        "Time of one call. Images of 2 KiB; pick and entry are for the last entry. Three kinds: host, hip and openmp for each of 21 processors.",
+        "Time of one call. Images of 2 KiB, in rising order where nothing else is said; pick and entry are for the last entry. Three kinds: host, hip\n\
+         and openmp for each of 21 processors. Hostile order: the first and the last image, then those in between, so that each has earlier ones on\n\
+         both sides. One image: all entries share it.",
         &["Job", "Entries", "Library", "Second program", "Plain C", "Library / plain C"],
     );
     for entries in [1, 16, 64] {
@@ -73,6 +84,9 @@ pub fn jobs() {
     let (bundle, last) = (sample::three_kinds(IMAGE), sample::three_kinds_id(sample::THREE_KINDS - 1));
     row(&table, "check of three kinds", sample::THREE_KINDS, &check(&bundle));
     row(&table, "pick of three kinds", sample::THREE_KINDS, &pick(&bundle, last.as_bytes()));
+    for (job, place) in PLACES {
+        row(&table, job, 64, &check(&sample::with_places(sample::bundle(64, IMAGE), place)));
+    }
     table.end();
 }
 

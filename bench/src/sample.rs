@@ -1,7 +1,7 @@
 //! Containers as LLVM's tools write them.
 
 use second::model::bundle::{check, packed};
-use second::model::OK;
+use second::model::{integer, OK};
 use second::samples::BINARIES;
 
 const KINDS: [&str; 3] = ["hip", "hipv4", "openmp"];
@@ -30,6 +30,20 @@ pub fn three_kinds_id(entry: usize) -> String {
 /// A bundle of so many entries, each with an image of this size.
 pub fn bundle(entries: usize, image: usize) -> Vec<u8> {
     accepted((0..entries).map(id), image)
+}
+
+/// The bundle with its images, which have one size, in other places: that of entry k is where that of entry `place(k)` was.
+pub fn with_places(mut bundle: Vec<u8>, place: impl Fn(usize) -> usize) -> Vec<u8> {
+    let mut rows = vec![32];
+    for k in 1..integer(&bundle, 24, 8) as usize {
+        rows.push(rows[k - 1] + 24 + integer(&bundle, rows[k - 1] + 16, 8) as usize);
+    }
+    let offsets: Vec<u64> = rows.iter().map(|row| integer(&bundle, *row, 8)).collect();
+    for (k, row) in rows.iter().enumerate() {
+        bundle[*row..row + 8].copy_from_slice(&offsets[place(k)].to_le_bytes());
+    }
+    assert_eq!(check(&bundle).number, OK);
+    bundle
 }
 
 /// The bundle of all entries of three kinds, each with an image of this size.

@@ -5,6 +5,7 @@ pub mod binary_contents;
 pub mod bundles;
 pub mod examples;
 pub mod ids;
+pub mod images;
 pub mod pairs;
 pub mod random;
 pub mod records;

@@ -32,6 +32,7 @@ pub const STRINGS: u64 = 16;
 pub const IMAGE: u64 = 17;
 pub const MANY: u64 = 18;
 pub const END: u64 = 19;
+pub const OVERLAP: u64 = 21;
 /// How many numbers a tally has room for: those that later calls return go up to 23.
 pub const NUMBERS: usize = 24;
 

@@ -1,7 +1,7 @@
 //! The files of `samples/`, with what they hold.
 
 use crate::model::binaries::Binary;
-use crate::model::{part, OK};
+use crate::model::{part, OK, OVERLAP};
 use std::collections::BTreeMap;
 
 /// A bundle, and its entries in order: canonical ID and image. `as_written`: LLVM's bundler wrote what the bundle writer writes for them.
@@ -10,6 +10,14 @@ pub struct BundleSample {
     pub bytes: &'static [u8],
     pub as_written: bool,
     pub entries: &'static [(&'static str, &'static [u8])],
+}
+
+/// A bundle that every call refuses by this number.
+pub struct RefusedSample {
+    pub name: &'static str,
+    pub bytes: &'static [u8],
+    pub number: u64,
+    pub place: u64,
 }
 
 /// Offload binaries laid end to end.
@@ -119,6 +127,9 @@ pub const BUNDLES: &[BundleSample] = &[
         ],
     },
 ];
+
+pub const REFUSED: &[RefusedSample] =
+    &[RefusedSample { name: "overlap", bytes: sample!("refused/overlap.bundle"), number: OVERLAP, place: 1 }];
 
 /// Device names that some samples answer with an image and others with NONE, and some that break the rules.
 pub const DEVICES: &[&str] = &[
@@ -304,6 +315,33 @@ mod tests {
                 DEVICES.iter().map(|device| pick(sample.bytes, device.as_bytes()).number).collect();
             assert_eq!(numbers, BTreeSet::from([OK, QUERY, NONE]), "{}", sample.name);
         }
+    }
+
+    #[test]
+    fn refused_bundles_are_refused() {
+        for RefusedSample { name, bytes, number, place } in REFUSED {
+            assert_eq!(check(bytes), Checked { number: *number, place: *place, count: 0 }, "{name}");
+            for device in DEVICES {
+                let picked = pick(bytes, device.as_bytes());
+                assert_eq!((picked.number, picked.place), (*number, *place), "{name}: {device}");
+            }
+            let located = entry_at(bytes, 0);
+            assert_eq!((located.number, located.place), (*number, *place), "{name}");
+        }
+    }
+
+    #[test]
+    fn images_of_the_sample_overlap_in_one_byte() {
+        let mut bundle = REFUSED[0].bytes.to_vec();
+        bundle[40] -= 1; // the first image's size
+        let images = [0, 1].map(|index| {
+            let located = entry_at(&bundle, index);
+            assert_eq!(located.number, OK);
+            (located.position, located.position + located.size)
+        });
+        let found = images.map(|(start, end)| &bundle[start as usize..end as usize]);
+        assert_eq!(found, [&sample!("images/host.bc")[..], sample!("images/sm_70.s")]);
+        assert_eq!(images[0].1, images[1].0);
     }
 
     #[test]

@@ -5,13 +5,14 @@ use mathlib.Core.List.{List}
 use lib.ListN.{length, take}
 use borrow.Author.Tests.{ltb-false, le-ltb}
 use Rattle.wire.specs.Bytes.{same}
-use Rattle.wire.specs.Stop.{go, stopAt, earlier}
+use Rattle.wire.specs.Limit.{limit}
+use Rattle.wire.specs.Stop.{Stop, go, stopAt, earlier}
 use Rattle.wire.proofs.Bools.{or-neither, neither-or, not-no, yes-not}
 use Rattle.wire.proofs.ByteLaws.{same-true, eq-same}
 use Rattle.wire.proofs.StopLaws.{⨾-both, ⨾-left, ⨾-right, stopIf-go, stopIf-no, stopAt-go, stopAt-no, stopAt-same, earlier-same, earlier-none, none-earlier}
 use Rattle.entry_id.specs.IdRules.{IdRules}
-use Rattle.bundle.specs.Table.{Row, magic, count, rowStart}
-use Rattle.bundle.specs.Check.{outside, headStop, tableStop, rowsStop, bundleStop, badId, meanSame, mix}
+use Rattle.bundle.specs.Table.{Row, magic, count, rowStart, row}
+use Rattle.bundle.specs.Check.{outside, overlapStop, headStop, tableStop, rowsStop, bundleStop, badId, meanSame, mix}
 use Rattle.bundle.specs.Accepted.{Framed, Meant, Sound, Accepted}
 use Rattle.bundle.proofs.CheckLaws.{rowFits, inside}
 
@@ -19,10 +20,14 @@ pub counted : (s : List ℕ) → headStop s .number ≡ 0 → (32 ≤ length s) 
 unfolding headStop
 counted s e = let o = or-neither _ _ (stopIf-no 2 _ (⨾-right _ _ (⨾-right _ _ e))) in (ltb-false _ _ (o .0), ltb-false _ _ (o .1))
 
+pub sized : (s : List ℕ) → headStop s .number ≡ 0 → length s ≤ limit
+unfolding headStop
+sized s e = ltb-false _ _ (stopIf-no 0 _ (⨾-left _ _ e))
+
 pub framed : (s : List ℕ) → headStop s .number ≡ 0 → tableStop s .number ≡ 0 → Framed s
 unfolding headStop tableStop
 framed s e t = record {
-  fits = ltb-false _ _ (stopIf-no 0 _ (⨾-left _ _ e));
+  fits = sized s e;
   magical = same-true _ _ (not-no _ (stopIf-no 1 _ (⨾-left _ _ (⨾-right _ _ e))));
   long = counted s e .0;
   few = counted s e .1;
@@ -50,28 +55,32 @@ module _ (R : IdRules) where
     unmixed = λ i h. none-earlier _ rows i (stopAt-no 7 _ _ r i h);
   }
 
-  pub sound : (end len n : ℕ) (rows : ℕ → Row) → rowsStop R end len n rows .number ≡ 0 → Sound R end len n rows
+  pub sound : (between : Stop) (end len n : ℕ) (rows : ℕ → Row) → rowsStop R between end len n rows .number ≡ 0 → Sound R end len n rows × (between .number ≡ 0)
   unfolding rowsStop
-  sound end len n rows e =
+  sound between end len n rows e =
       let e₂ = ⨾-right _ _ e in
-      let e₃ = ⨾-right _ _ e₂ in
-      record {
-        meant = meant n rows (⨾-left _ _ e) (⨾-left _ _ e₃) (⨾-right _ _ e₃);
-        in-range = λ i h. inside end len _ _ .0 (stopAt-no 5 _ _ (⨾-left _ _ e₂) i h);
-      }
+      let b = ⨾-right _ _ e₂ in
+      let e₃ = ⨾-right _ _ b in (
+        record {
+          meant = meant n rows (⨾-left _ _ e) (⨾-left _ _ e₃) (⨾-right _ _ e₃);
+          in-range = λ i h. inside end len _ _ .0 (stopAt-no 5 _ _ (⨾-left _ _ e₂) i h);
+        },
+        ⨾-left _ _ b,
+      )
 
-  pub sound-go : (end len n : ℕ) (rows : ℕ → Row) → Sound R end len n rows → rowsStop R end len n rows ≡ go
+  pub sound-go : (between : Stop) (end len n : ℕ) (rows : ℕ → Row) → Sound R end len n rows → between ≡ go → rowsStop R between end len n rows ≡ go
   unfolding rowsStop
-  sound-go end len n rows f =
+  sound-go between end len n rows f b =
       ⨾-both _ _ (stopAt-go 5 _ _ (f .meant .named))
       (⨾-both _ _ (stopAt-go 6 _ _ (λ i h. inside end len _ _ .1 (f .in-range i h)))
+      (⨾-both _ _ b
       (⨾-both _ _ (stopAt-go 7 _ _ (λ i h. earlier-none _ rows i (f .meant .once i h)))
-      (stopAt-go 8 _ _ (λ i h. earlier-none _ rows i (f .meant .unmixed i h)))))
+      (stopAt-go 8 _ _ (λ i h. earlier-none _ rows i (f .meant .unmixed i h))))))
 
   -- the rows below n decide
-  pub rowsStop-same : (end len n : ℕ) (f g : ℕ → Row) → ((i : ℕ) → i < n → f i ≡ g i) → rowsStop R end len n f ≡ rowsStop R end len n g
+  pub rowsStop-same : (between : Stop) (end len n : ℕ) (f g : ℕ → Row) → ((i : ℕ) → i < n → f i ≡ g i) → rowsStop R between end len n f ≡ rowsStop R between end len n g
   unfolding rowsStop
-  rowsStop-same end len n f g h =
+  rowsStop-same between end len n f g h =
       rw (
         stopAt-same 5 n (λ i. badId R (f i)) (λ i. badId R (g i)) (λ i l. rw (h i l)),
         stopAt-same 6 n (λ i. outside end len (f i .offset) (f i .size)) (λ i. outside end len (g i .offset) (g i .size)) (λ i l. rw (h i l)),
@@ -80,9 +89,12 @@ module _ (R : IdRules) where
       )
 
   pub accepted : (s : List ℕ) → bundleStop R s .number ≡ 0 → Accepted R s
-  unfolding bundleStop
-  accepted s e = let e₂ = ⨾-right _ _ e in record { frame = framed s (⨾-left _ _ e) (⨾-left _ _ e₂); sense = sound _ _ _ _ (⨾-right _ _ e₂) }
+  unfolding bundleStop overlapStop
+  accepted s e =
+      let e₂ = ⨾-right _ _ e in
+      let (sense, apart) = sound _ _ _ _ _ (⨾-right _ _ e₂) in
+      record { frame = framed s (⨾-left _ _ e) (⨾-left _ _ e₂); sense = sense; apart = λ i h. none-earlier _ (row s) i (stopAt-no 20 _ _ apart i h) }
 
   pub accepted-go : (s : List ℕ) → Accepted R s → bundleStop R s ≡ go
-  unfolding bundleStop
-  accepted-go s a = ⨾-both _ _ (head-go s (a .frame)) (⨾-both _ _ (table-go s (a .frame)) (sound-go _ _ _ _ (a .sense)))
+  unfolding bundleStop overlapStop
+  accepted-go s a = ⨾-both _ _ (head-go s (a .frame)) (⨾-both _ _ (table-go s (a .frame)) (sound-go _ _ _ _ _ (a .sense) (stopAt-go 21 _ _ (λ i h. earlier-none _ (row s) i (a .apart i h)))))

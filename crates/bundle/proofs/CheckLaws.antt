@@ -1,5 +1,5 @@
 -- The tests of the check as facts, and the answer by its refusal. Assumes nothing.
-use Prim.Native.Nat.{ℕ, zero, suc, _≤_}
+use Prim.Native.Nat.{ℕ, zero, suc, _<_, _≤_}
 use native.Mathlib.Omega.{arith}
 use mathlib.Core.Logic.{_↔_}
 use mathlib.Core.Path.{_≡_, refl}
@@ -10,13 +10,12 @@ use mathlib.Core.List.{List}
 use borrow.Author.Tests.{ltb-false, leb-true, le-ltb, le-leb}
 use Rattle.wire.specs.Limit.{limit}
 use Rattle.wire.specs.Bytes.{same}
-use Rattle.wire.specs.First.{first, anyBelow}
-use Rattle.wire.specs.Stop.{Stop, stop, _⨾_, stopWhen, stopIf, stopAt}
+use Rattle.wire.specs.Stop.{Stop, _⨾_, stopWhen, stopIf, stopAt}
 use Rattle.wire.proofs.Bools.{byBool, and-both, both-and, or-neither, neither-or, not-no, yes-not}
 use Rattle.wire.proofs.StopLaws.{⨾-next, ⨾-stop}
 use Rattle.entry_id.specs.IdRules.{IdRules}
 use Rattle.bundle.specs.Table.{magic, count}
-use Rattle.bundle.specs.Check.{badRow, outside, unrefused, headStop, tableStop, rowsStop, bundleStop}
+use Rattle.bundle.specs.Check.{badRow, outside, overlapStop, unrefused, headStop, tableStop, rowsStop, bundleStop}
 use Rattle.bundle.specs.Accepted.{RowFits, Inside}
 
 pub unrefused-go : (t : Stop) (v : ℕ) → t .number ≡ 0 → unrefused t v ≡ v
@@ -27,39 +26,44 @@ pub unrefused-stop : (t : Stop) (v k : ℕ) → t .number ≡ suc k → unrefuse
 unfolding unrefused
 unrefused-stop t v k e = rw (e, unrefused)
 
--- ---- a chain's number is at most its last
+-- ---- the numbers of a chain
 
-⨾-le : (a b : Stop) (n : ℕ) → a .number ≤ n → b .number ≤ n → (a ⨾ b) .number ≤ n
-⨾-le a b n p q = cases (a .number) refl
-  where
-    cases : (k : ℕ) → a .number ≡ k → (a ⨾ b) .number ≤ n
-    cases zero e = rw (⨾-next a b e) q
-    cases (suc k) e = rw (⨾-stop a b k e) p
+module _ (P : ℕ → Type 0) where
+  ⨾-all : (a b : Stop) → P (a .number) → P (b .number) → P ((a ⨾ b) .number)
+  ⨾-all a b p q = cases (a .number) refl
+    where
+      cases : (k : ℕ) → a .number ≡ k → P ((a ⨾ b) .number)
+      cases zero e = rw (⨾-next a b e) q
+      cases (suc k) e = rw (⨾-stop a b k e) p
 
-stopWhen-le : (b : Bool) (s : Stop) (n : ℕ) → s .number ≤ n → stopWhen b s .number ≤ n
-unfolding stopWhen
-stopWhen-le true s n h = h
-stopWhen-le false s n h = omega arith
-
-stopIf-le : (k : ℕ) (b : Bool) (n : ℕ) → k ≤ n → stopIf k b .number ≤ n
-unfolding stopIf
-stopIf-le k b n h = stopWhen-le b (stop k 0) n h
-
-stopAt-le : (k m : ℕ) (p : ℕ → Bool) (n : ℕ) → k ≤ n → stopAt k m p .number ≤ n
-unfolding stopAt
-stopAt-le k m p n h = stopWhen-le (anyBelow m p) (stop k (first m p)) n h
+  stopWhen-all : (b : Bool) (t : Stop) → P 0 → P (t .number) → P (stopWhen b t .number)
+  unfolding stopWhen
+  stopWhen-all true t z h = h
+  stopWhen-all false t z h = z
 
 pub headStop-le : (s : List ℕ) → headStop s .number ≤ 3
-unfolding headStop
-headStop-le s = ⨾-le _ _ 3 (stopIf-le 1 _ 3 (omega arith)) (⨾-le _ _ 3 (stopIf-le 2 _ 3 (omega arith)) (stopIf-le 3 _ 3 (omega arith)))
+unfolding headStop stopIf
+headStop-le s =
+    let when : (b : Bool) (t : Stop) → t .number ≤ 3 → stopWhen b t .number ≤ 3 = λ b t. stopWhen-all (λ m. m ≤ 3) b t (omega arith) in
+    ⨾-all (λ m. m ≤ 3) _ _ (when _ _ (omega arith)) (⨾-all (λ m. m ≤ 3) _ _ (when _ _ (omega arith)) (when _ _ (omega arith)))
 
-pub bundleStop-le : (R : IdRules) (s : List ℕ) → bundleStop R s .number ≤ 8
-unfolding bundleStop tableStop rowsStop
-bundleStop-le R s =
-    ⨾-le _ _ 8
-    (omega (arith, headStop-le s))
-    (⨾-le _ _ 8 (stopAt-le 4 _ _ 8 (omega arith))
-    (⨾-le _ _ 8 (stopAt-le 5 _ _ 8 (omega arith)) (⨾-le _ _ 8 (stopAt-le 6 _ _ 8 (omega arith)) (⨾-le _ _ 8 (stopAt-le 7 _ _ 8 (omega arith)) (stopAt-le 8 _ _ 8 (omega arith))))))
+-- 0, 1 to 8 or 21
+abbrev pub Own : ℕ → Type 0
+Own m = 8 < m → m ≡ 21
+
+small-own : (m : ℕ) → m ≤ 8 → Own m
+small-own m h l = omega arith
+
+pub bundleStop-own : (R : IdRules) (s : List ℕ) → Own (bundleStop R s .number)
+unfolding bundleStop tableStop rowsStop overlapStop stopAt
+bundleStop-own R s =
+    let when : (b : Bool) (t : Stop) → Own (t .number) → Own (stopWhen b t .number) = λ b t. stopWhen-all Own b t (small-own 0 (omega arith)) in
+    ⨾-all Own _ _ (small-own _ (omega (arith, headStop-le s)))
+    (⨾-all Own _ _ (when _ _ (small-own 4 (omega arith)))
+    (⨾-all Own _ _ (when _ _ (small-own 5 (omega arith)))
+    (⨾-all Own _ _ (when _ _ (small-own 6 (omega arith)))
+    (⨾-all Own _ _ (when _ _ (λ l. refl))
+    (⨾-all Own _ _ (when _ _ (small-own 7 (omega arith))) (when _ _ (small-own 8 (omega arith))))))))
 
 -- ---- tests as facts
 

@@ -16,6 +16,7 @@ use Rattle.entry_id.proofs.Theorems.{entryIds}
 use Rattle.bundle.specs.Check.{badId, meanSame, mix}
 use Rattle.bundle.specs.Pick.{compatibleAt}
 use Rattle.bundle.specs.Demand2.{ByMeaning, Demand2}
+use Rattle.bundle.proofs.OverlapLaws.{overlap-exact, images-apart}
 use Rattle.bundle.proofs.PlaceLaws.{place-exact}
 use Rattle.bundle.proofs.Theorems.{check-exact, pick-exact, framed-exact, table-decides}
 use Rattle.bundle.proofs.EntryAtLaws.{entry-exact}
@@ -47,6 +48,8 @@ pub demand2 : Demand2
 demand2 = record {
   checked = λ s. check-exact idRules s;
   places = λ s. place-exact idRules s;
+  overlap = overlap-exact;
+  apart = images-apart idRules;
   picked = λ s device. pick-exact idRules idRules-lawful s device;
   entry = λ s i. entry-exact idRules s i;
   framed = framed-exact;

@@ -12,7 +12,7 @@ use Rattle.wire.specs.First.{first, anyBelow}
 use Rattle.wire.specs.Stop.{_⨾_, stopIf, stopAt, stopWhen, earlier}
 use Rattle.wire.proofs.Bools.{byBool, clash, is-true}
 use Rattle.wire.proofs.FirstLaws.{any-some}
-use Rattle.wire.proofs.StopLaws.{⨾-stop}
+use Rattle.wire.proofs.StopLaws.{⨾-stop, earlier-some}
 use Rattle.entry_id.specs.Meaning.{meaning, valid}
 use Rattle.entry_id.specs.Compare.{compatible, sameMeaning}
 use Rattle.entry_id.specs.Rules.{idRules}
@@ -24,7 +24,7 @@ use Rattle.bundle.specs.Check.{meanSame, bundleStop, unrefused, check}
 use Rattle.bundle.specs.Pick.{compatibleAt, chosen, pickStop, pick}
 use Rattle.bundle.specs.EitherSpelling.{EitherSpelling}
 use Rattle.bundle.specs.declared.Picked.{Picked}
-use Rattle.bundle.proofs.CheckLaws.{bundleStop-le}
+use Rattle.bundle.proofs.CheckLaws.{bundleStop-own}
 use Rattle.bundle.proofs.PlaceLaws.{from-7}
 use Rattle.bundle.proofs.Theorems.{check-exact}
 use Rattle.bundle.proofs.Demand2.{demand2}
@@ -33,22 +33,21 @@ use Rattle.bundle.proofs.Demand2.{demand2}
 
 module _ (s : List ℕ) (i j : ℕ) (h : i < count s) (l : j < i) (e : meanSame idRules (row s j) (row s i) ≡ true) where
   found : stopAt 7 (count s) (earlier (meanSame idRules) (row s)) .number ≡ 7
-  unfolding stopAt stopWhen earlier
-  found = rw (any-some (count s) (earlier (meanSame idRules) (row s)) i h (any-some i (λ k. meanSame idRules (row s k) (row s i)) j l e))
+  unfolding stopAt stopWhen
+  found = rw (any-some (count s) (earlier (meanSame idRules) (row s)) i h (earlier-some (meanSame idRules) (row s) i j l e))
 
   refused : (check idRules s .number ≡ 0 → ⊥) × (check idRules s .number ≡ 8 → ⊥)
   unfolding check
   refused = (
     (λ z. clash (meanSame idRules (row s j) (row s i)) e (check-exact idRules s .accepted .0 z .sense .meant .once i h j l)),
-    (λ (z : bundleStop idRules s .number ≡ 8). let q : _≡_ {A = ℕ} 8 7 = sym z ∙ ap (λ t. t .number) (from-7 idRules s 7 z (omega arith) ∙ ⨾-stop _ _ 6 found) ∙ found in absurd (omega arith)),
+    (λ (z : bundleStop idRules s .number ≡ 8). let q : _≡_ {A = ℕ} 8 7 = sym z ∙ ap (λ t. t .number) (from-7 idRules s 7 z (omega arith) (omega arith) ∙ ⨾-stop _ _ 6 found) ∙ found in absurd (omega arith)),
   )
 
-  by-seven : (1 ≤ check idRules s .number) × (check idRules s .number ≤ 7)
+  by-seven : (1 ≤ check idRules s .number) × (7 < check idRules s .number → check idRules s .number ≡ 21)
   unfolding check
   by-seven =
       let (x, y) = refused in
-      let z : check idRules s .number ≤ 8 = bundleStop-le idRules s in
-      (omega (arith, x), omega (arith, y, z))
+      (omega (arith, x), (λ l. bundleStop-own idRules s (omega (arith, y))))
 
 module _ (s t : List ℕ) (v : T (valid (hipId t))) (w : T (valid (hipv4Id t))) where
   module _ (i j : ℕ) (p : row s i .id ≡ hipId t) (q : row s j .id ≡ hipv4Id t) where
@@ -66,7 +65,7 @@ module _ (s t : List ℕ) (v : T (valid (hipId t))) (w : T (valid (hipv4Id t))) 
         let n = ap length (sym p ∙ ap (λ k. row s k .id) e ∙ q) in
         omega (arith, n, length-append (bytes "hip-") t, length-append (bytes "hipv4-") t)
 
-    twice : i < count s → j < count s → (1 ≤ check idRules s .number) × (check idRules s .number ≤ 7)
+    twice : i < count s → j < count s → (1 ≤ check idRules s .number) × (7 < check idRules s .number → check idRules s .number ≡ 21)
     twice h k =
         byBool (ltb i j)
         (λ l. by-seven s j i k (ltb-true i j l) same-rows)

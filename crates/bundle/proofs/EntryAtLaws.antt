@@ -21,7 +21,7 @@ use Rattle.bundle.specs.Theorems.{imageAt}
 use Rattle.bundle.specs.EntryAt.{entryStop, entryAt, unlocated, located, pickOf, Names, EntryExact}
 use Rattle.bundle.specs.declared.Located.{Located}
 use Rattle.bundle.specs.declared.Picked.{Picked}
-use Rattle.bundle.proofs.CheckLaws.{unrefused-stop, bundleStop-le}
+use Rattle.bundle.proofs.CheckLaws.{unrefused-stop, bundleStop-own}
 use Rattle.bundle.proofs.AcceptLaws.{accepted, accepted-go}
 use Rattle.bundle.proofs.PickLaws.{picked-asked, chosen-lt, pick-image}
 use Rattle.bundle.proofs.TableLaws.{rowStart-step, rowStart-mono}
@@ -66,7 +66,7 @@ module _ (R : IdRules) (s : List ℕ) (i : ℕ) where
           byBool (ltb i (count s))
           (λ t. absurd (omega (arith, ap (λ (x : Located). x .number) (entry-found a (ltb-true i (count s) t)))))
           (λ f. (a, ltb-false i (count s) f))
-      by (suc k) z = absurd (omega (arith, bundleStop-le R s, ap (λ (x : Located). x .number) (entry-refused k z)))
+      by (suc k) z = let n = ap (λ (x : Located). x .number) (entry-refused k z) in absurd (omega (arith, bundleStop-own R s (omega arith)))
 
   -- ---- the bytes
 

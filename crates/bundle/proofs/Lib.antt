@@ -1,4 +1,5 @@
 pub mod CheckLaws
+pub mod OverlapLaws
 pub mod PlaceLaws
 pub mod AcceptLaws
 pub mod EntryLaws

@@ -5,12 +5,13 @@ use native.Mathlib.Nat.{add-assoc}
 use mathlib.Core.Path.{_≡_, refl, ap, _∙_}
 use mathlib.Core.List.{List, [], _∷_, _++_, append-assoc}
 use lib.ListN.{length, getD, take, drop, length-append}
-use lib.Seq.{take-at, drop-at, split-at}
+use lib.Seq.{take-at, drop-at, split-at, take-take, getD-take, length-take-le}
 use Rattle.wire.specs.Lists.{total}
 use Rattle.entry_id.specs.IdRules.{IdRules, Lawful}
 use Rattle.wire.specs.Limit.{limit}
 use Rattle.bundle.specs.Entry.{Entry, noEntry, entries}
 use Rattle.bundle.specs.Layout.{packedEnd, packedLength, images, packed, encode, noRow, Layout, Writable, ReadsBack}
+use Rattle.bundle.proofs.OverlapLaws.{apart-after}
 use Rattle.bundle.proofs.ReadBack.{length-layout, layout-entries, layout-reads-back}
 
 pub length-packed : (from : ℕ) (es : List Entry) → length (packed from es) ≡ length es
@@ -45,9 +46,19 @@ packed-at from [] i h = absurd (omega arith)
 packed-at from (e ∷ es) zero h = let z : from ≡ from + 0 = omega arith in λ k. record { offset = z k; size = length (e .image); id = e .id }
 packed-at from (e ∷ es) (suc i) h = packed-at (from + length (e .image)) es i (omega arith) ∙ simp (length-append, add-assoc)
 
+-- an earlier image ends before a later one starts
+images-before : (es : List Entry) (i : ℕ) → i ≤ length es → (j : ℕ) → j < i → length (images (take j es)) + length (getD es j noEntry .image) ≤ length (images (take i es))
+images-before es i h j l =
+    let hj : j < length (take i es) = omega (arith, length-take-le i es h) in
+    let c = simp (length-append, take-take j i es (omega arith), getD-take i es j noEntry l) at (ap length (images-cut (take i es) j hj)) in
+    omega (arith, c)
+
 pub packed-layout : (es : List Entry) → Layout es (packed (packedEnd es) es) (images es)
 packed-layout es = record {
   one-each = length-packed (packedEnd es) es;
+  apart = λ i h j l.
+      rw (packed-at (packedEnd es) es i h, packed-at (packedEnd es) es j (omega arith))
+      (apart-after _ _ (omega (arith, images-before es i (omega arith) j l)));
   laid = λ i h.
       let img = getD es i noEntry .image in
       let c = simp length-append at (ap length (images-cut es i h)) in

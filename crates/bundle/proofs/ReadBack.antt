@@ -138,6 +138,7 @@ module _ (es : List Entry) (rs : List Row) (body : List ℕ) (lay : Layout es rs
         };
         in-range = λ i h. rw (read i h, tableEnd-bundle rs body small (omega (arith, few))) (inside-row i (below i h));
       };
+      apart = λ i h j l. rw (read i h, read j (omega arith)) (lay .apart i (index i (below i h)) j l);
     }
 
     pub layout-count : count whole ≡ length es

@@ -7,11 +7,13 @@ use mathlib.Core.List.{List}
 use lib.ListN.{length, getD, take, drop, length-take, length-drop}
 use lib.Seq.{ext-getD, getD-take, getD-drop}
 use Rattle.wire.specs.Word.{word}
+use Rattle.wire.specs.Stop.{earlier}
 use Rattle.wire.proofs.WordLaws.{word-agree}
 use Rattle.wire.proofs.FirstLaws.{first-same, any-same}
+use Rattle.wire.proofs.StopLaws.{stopAt-same, earlier-same}
 use Rattle.entry_id.specs.IdRules.{IdRules}
 use Rattle.bundle.specs.Table.{count, rowStart, row, rowAt, tableEnd}
-use Rattle.bundle.specs.Check.{check, bundleStop}
+use Rattle.bundle.specs.Check.{overlaps, overlapStop, bundleStop, check}
 use Rattle.bundle.specs.Pick.{compatibleAt, chosen, pickStop, pick}
 use Rattle.bundle.specs.Accepted.{RowFits, Framed}
 use Rattle.bundle.proofs.AcceptLaws.{head-go, table-go, rowsStop-same}
@@ -94,10 +96,14 @@ module _ (s t : List ℕ) (f : Framed s) (len : length s ≡ length t) (agree : 
   }
 
   module _ (R : IdRules) where
+    overlapStop-same : overlapStop (count s) (row s) ≡ overlapStop (count s) (row t)
+    unfolding overlapStop
+    overlapStop-same = stopAt-same 21 (count s) (earlier overlaps (row s)) (earlier overlaps (row t)) (earlier-same overlaps (count s) (row s) (row t) row-same)
+
     bundleStop-same : bundleStop R s ≡ bundleStop R t
     unfolding bundleStop
     bundleStop-same =
-        rw (head-go s f, head-go t framed-same, table-go s f, table-go t framed-same, ← end-same, ← len, ← count-same, rowsStop-same R (tableEnd s) (length s) (count s) (row s) (row t) row-same)
+        rw (head-go s f, head-go t framed-same, table-go s f, table-go t framed-same, ← end-same, ← len, ← count-same, overlapStop-same, rowsStop-same R _ (tableEnd s) (length s) (count s) (row s) (row t) row-same)
 
     pub check-same : check R s ≡ check R t
     unfolding check

@@ -20,7 +20,7 @@ use Rattle.bundle.specs.Pick.{compatibleAt, chosen, pickStop, pick}
 use Rattle.bundle.specs.Accepted.{Accepted, Inside}
 use Rattle.bundle.specs.Theorems.{CheckExact, refusal, imageAt, Asked, PickExact, FramedExact, TableDecides}
 use Rattle.bundle.specs.declared.Picked.{Picked}
-use Rattle.bundle.proofs.CheckLaws.{unrefused-stop, bundleStop-le}
+use Rattle.bundle.proofs.CheckLaws.{unrefused-stop, bundleStop-own}
 use Rattle.bundle.proofs.AcceptLaws.{framed, head-go, table-go, accepted, accepted-go}
 use Rattle.bundle.proofs.EntryLaws.{entries-at}
 use Rattle.bundle.proofs.PickLaws.{pick-refused, pick-query, pick-none, pickStop-go, picked-asked, chosen-lt, chosen-compatible, pick-image, compatible-one, pick-found}
@@ -70,13 +70,13 @@ module _ (R : IdRules) (s device : List ℕ) where
   number-is (one e) = e
 
   query-only : (c : Case) → number-of c ≡ 9 → Accepted R s × (empty (R .canon device) ≡ true)
-  query-only (refuses k e) n = absurd (omega (arith, bundleStop-le R s))
+  query-only (refuses k e) n = absurd (omega (arith, bundleStop-own R s (omega (arith, e, n)), e, n))
   query-only (unnamed a q) n = (a, q)
   query-only (nothing a h) n = absurd (omega arith)
   query-only (one e) n = absurd (omega arith)
 
   none-only : (c : Case) → number-of c ≡ 10 → Asked R s device × ((i : ℕ) → i < count s → compatibleAt R s device i ≡ false)
-  none-only (refuses k e) n = absurd (omega (arith, bundleStop-le R s))
+  none-only (refuses k e) n = absurd (omega (arith, bundleStop-own R s (omega (arith, e, n)), e, n))
   none-only (unnamed a q) n = absurd (omega arith)
   none-only (nothing a h) n = (a, h)
   none-only (one e) n = absurd (omega arith)

@@ -30,7 +30,7 @@ module _ (R : IdRules) (n : ℕ) (records : List EntryRecord) (ids images : List
 
     pub records-sound : Sound R 0 (length images) n (rowsOf ids records)
     unfolding recordsStop
-    records-sound = sound R 0 (length images) n (rowsOf ids records) (⨾-right _ _ (⨾-right _ _ e))
+    records-sound = sound R _ 0 (length images) n (rowsOf ids records) (⨾-right _ _ (⨾-right _ _ e)) .0
 
   -- ---- what was written
 

@@ -8,7 +8,7 @@ use Rattle.wire.specs.Limit.{limit}
 use Rattle.wire.specs.Word.{word}
 use Rattle.entry_id.specs.IdRules.{IdRules}
 use Rattle.bundle.specs.Table.{Row, magic, count, rowStart, row, tableEnd}
-use Rattle.bundle.specs.Check.{badId, meanSame, mix}
+use Rattle.bundle.specs.Check.{badId, overlaps, meanSame, mix}
 
 -- the row that starts at `from` is wholly inside, with an ID of 1 to 256 bytes
 pub record RowFits (s : List ℕ) (from : ℕ) : Type 0 where
@@ -48,8 +48,14 @@ pub record Sound (R : IdRules) (end len n : ℕ) (rows : ℕ → Row) : Type 0 w
   -- 6
   pub in-range : (i : ℕ) → i < n → Inside end len (rows i .offset) (rows i .size)
 
+-- of n rows, no image overlaps an earlier one
+abbrev pub Apart : ℕ → (ℕ → Row) → Type 0
+Apart n rows = (i : ℕ) → i < n → (j : ℕ) → j < i → overlaps (rows j) (rows i) ≡ false
+
 pub record Accepted (R : IdRules) (s : List ℕ) : Type 0 where
   -- 1 to 4
   pub frame : Framed s
   -- 5 to 8
   pub sense : Sound R (tableEnd s) (length s) (count s) (row s)
+  -- 21
+  pub apart : Apart (count s) (row s)

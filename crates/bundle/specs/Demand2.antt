@@ -12,7 +12,7 @@ use Rattle.entry_id.specs.Rules.{idRules}
 use Rattle.bundle.specs.Table.{Row, row}
 use Rattle.bundle.specs.Check.{badId, meanSame, mix}
 use Rattle.bundle.specs.Pick.{compatibleAt}
-use Rattle.bundle.specs.Theorems.{CheckExact, PlaceExact, PickExact, FramedExact, TableDecides}
+use Rattle.bundle.specs.Theorems.{CheckExact, PlaceExact, OverlapExact, ImagesApart, PickExact, FramedExact, TableDecides}
 use Rattle.bundle.specs.EntryAt.{EntryExact}
 use Rattle.bundle.specs.Writer.{WritesRead}
 
@@ -31,6 +31,8 @@ pub record Demand2 : Type 0 where
   -- "A container is accepted exactly when [the] rules hold" (RULES 7.4).
   pub checked : (s : List ℕ) → CheckExact idRules s
   pub places : (s : List ℕ) → PlaceExact idRules s
+  pub overlap : OverlapExact
+  pub apart : ImagesApart idRules
   -- "A pick returns the image of the one compatible entry, or NONE exactly if there is none."
   pub picked : (s device : List ℕ) → PickExact idRules s device
   -- an entry by its index (RULES 9)

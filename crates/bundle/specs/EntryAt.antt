@@ -32,7 +32,7 @@ abbrev pub unlocated : ℕ → ℕ → Located
 unlocated number place = record { number = number; place = place; position = 0; size = 0; «id_position» = 0; «id_length» = 0 }
 
 module _ (R : IdRules) where
-  -- 1 to 8 as the check gives them, then 10 NONE: the index is not below the count
+  -- 1 to 8 and 21 as the check gives them, then 10 NONE: the index is not below the count
   unfoldable pub entryStop : List ℕ → ℕ → Stop
   entryStop s i = bundleStop R s ⨾ stopIf 10 (not (ltb i (count s)))
 

@@ -15,7 +15,7 @@ use Rattle.entry_id.specs.IdRules.{IdRules}
 use Rattle.bundle.specs.Table.{Row, magic}
 use Rattle.bundle.specs.Check.{check}
 use Rattle.bundle.specs.Entry.{Entry, noEntry, entries}
-use Rattle.bundle.specs.Accepted.{Accepted}
+use Rattle.bundle.specs.Accepted.{Apart, Accepted}
 
 -- ---- bytes
 
@@ -76,9 +76,10 @@ pub record Laid (end : ℕ) (body : List ℕ) (r : Row) (e : Entry) : Type 0 whe
   pub within : k + length (e .image) ≤ length body
   pub image : take (length (e .image)) (drop k body) ≡ e .image
 
--- one row for each entry names it, wherever in the body the images lie
+-- one row for each entry names it, wherever in the body the images lie, if none overlaps another
 pub record Layout (es : List Entry) (rs : List Row) (body : List ℕ) : Type 0 where
   pub one-each : length rs ≡ length es
+  pub apart : Apart (length es) (λ i. getD rs i noRow)
   pub laid : (i : ℕ) → i < length es → Laid (packedEnd es) body (getD rs i noRow) (getD es i noEntry)
 
 -- entries that can be written: their IDs are canonical, and neither 3 nor 7 nor 8 refuses them

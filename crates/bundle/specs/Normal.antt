@@ -45,7 +45,7 @@ module _ (R : IdRules) where
   unfoldable pub normalLength : List ℕ → ℕ
   normalLength s = packedLength (entries R s)
 
-  -- "Normalising checks 1 to 8, 11, 12."
+  -- "Normalising checks 1 to 8 [and 21], 11, 12."
   unfoldable pub normaliseStop : List ℕ → ℕ → Stop
   normaliseStop s room = bundleStop R s ⨾ roomStop (normalLength s) room
 

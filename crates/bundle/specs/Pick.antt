@@ -19,7 +19,7 @@ module _ (R : IdRules) where
   unfoldable pub chosen : List ℕ → List ℕ → ℕ
   chosen s device = first (count s) (compatibleAt s device)
 
-  -- "A pick checks 1 to 8, then 9, then 10": 9 QUERY "the device name breaks the ID rules", 10 NONE "no compatible entry"
+  -- "A pick checks 1 to 8 [and 21], then 9, then 10": 9 QUERY "the device name breaks the ID rules", 10 NONE "no compatible entry"
   unfoldable pub pickStop : List ℕ → List ℕ → Stop
   pickStop s device =
       bundleStop R s

@@ -4,7 +4,7 @@ use mathlib.Core.Bool.{Bool, not, _&&_}
 use mathlib.Core.List.{List}
 use lib.Dec.{leb, ltb}
 use lib.ListN.{length, getD, take, drop}
-use Rattle.wire.specs.Stop.{Stop, _⨾_, stopIf, stopAt}
+use Rattle.wire.specs.Stop.{Stop, go, _⨾_, stopIf, stopAt}
 use Rattle.entry_id.specs.IdRules.{IdRules}
 use Rattle.bundle.specs.Table.{Row}
 use Rattle.bundle.specs.Check.{rowsStop}
@@ -34,4 +34,4 @@ unfoldable pub recordsStop : IdRules → List ℕ → ℕ → ℕ → List Entry
 recordsStop R ids len n records =
     stopIf 3 (ltb 64 n)
     ⨾ stopAt 4 n (λ i. badPart (length ids) (recordAt records i))
-    ⨾ rowsStop R 0 len n (rowsOf ids records)
+    ⨾ rowsStop R go 0 len n (rowsOf ids records)

@@ -9,13 +9,13 @@ use Rattle.wire.specs.Bytes.{empty}
 use Rattle.entry_id.specs.IdRules.{IdRules}
 use Rattle.bundle.specs.Table.{Row, count, rowStart, row, tableEnd}
 use Rattle.wire.specs.Stop.{_⨾_}
-use Rattle.bundle.specs.Check.{badRow, badId, outside, meanSame, mix, headStop, tableStop, check}
+use Rattle.bundle.specs.Check.{badRow, badId, outside, overlaps, meanSame, mix, headStop, tableStop, check}
 use Rattle.bundle.specs.Entry.{noEntry, entries}
 use Rattle.bundle.specs.Pick.{compatibleAt, pick}
 use Rattle.bundle.specs.Accepted.{Framed, Accepted}
 use Rattle.bundle.specs.declared.Picked.{Picked}
 
--- "a bundle is accepted when none of 1 to 8 applies, which is exactly when the check returns OK"
+-- "a bundle is accepted when none of 1 to 8 [and 21] applies, which is exactly when the check returns OK"
 pub record CheckExact (R : IdRules) (s : List ℕ) : Type 0 where
   pub accepted : (check R s .number ≡ 0) ↔ Accepted R s
   -- "An accepted call has place 0; a bundle check also returns the entry count"
@@ -35,13 +35,31 @@ pub record Earlier (related : Row → Row → Bool) (rows : ℕ → Row) (i : �
   pub before : other < i
   pub are : related (rows other) (rows i) ≡ true
 
--- "each of 4 to 8 is tried over all entries before the next, and the place is the lowest entry index it applies to"
+-- "each of 4 to 8 [and 21, between 6 and 7] is tried over all entries before the next, and the place is the lowest entry index it applies to"
 pub record PlaceExact (R : IdRules) (s : List ℕ) : Type 0 where
   pub table : check R s .number ≡ 4 → Lowest (λ i. badRow s (rowStart s i) ≡ true) (count s) (check R s .place)
   pub id : check R s .number ≡ 5 → Lowest (λ i. badId R (row s i) ≡ true) (count s) (check R s .place)
   pub range : check R s .number ≡ 6 → Lowest (λ i. outside (tableEnd s) (length s) (row s i .offset) (row s i .size) ≡ true) (count s) (check R s .place)
+  pub overlap : check R s .number ≡ 21 → Lowest (Earlier overlaps (row s)) (count s) (check R s .place)
   pub twice : check R s .number ≡ 7 → Lowest (Earlier (meanSame R) (row s)) (count s) (check R s .place)
   pub mixed : check R s .number ≡ 8 → Lowest (Earlier (mix R) (row s)) (count s) (check R s .place)
+
+-- a byte of both images
+pub record Shared (r q : Row) : Type 0 where
+  pub at : ℕ
+  pub in-first : (r .offset ≤ at) × (at < r .offset + r .size)
+  pub in-second : (q .offset ≤ at) × (at < q .offset + q .size)
+
+abbrev pub SameSpan : Row → Row → Type 0
+SameSpan r q = (r .offset ≡ q .offset) × (r .size ≡ q .size)
+
+-- "shares a byte .. without being the same span (lying wholly inside it or around it counts)"
+abbrev pub OverlapExact : Type 0
+OverlapExact = (r q : Row) → (overlaps r q ≡ true) ↔ (Shared r q × (SameSpan r q → ⊥))
+
+-- "two images of size above 0 are either the same span or share no byte": images of any two entries that share a byte are the same span
+abbrev pub ImagesApart : IdRules → Type 0
+ImagesApart R = (s : List ℕ) → Accepted R s → (i j : ℕ) → i < count s → j < count s → Shared (row s i) (row s j) → SameSpan (row s i) (row s j)
 
 -- a pick's refusal
 abbrev pub refusal : ℕ → ℕ → Picked
@@ -58,7 +76,7 @@ pub record Asked (R : IdRules) (s device : List ℕ) : Type 0 where
 
 -- "a pick on it gives the image of its one compatible entry, QUERY or NONE, each exactly in its own case"
 pub record PickExact (R : IdRules) (s device : List ℕ) : Type 0 where
-  -- "A pick checks 1 to 8": what the check refuses, with its number and place
+  -- "A pick checks 1 to 8 [and 21]": what the check refuses, with its number and place
   pub refused : (k : ℕ) → check R s .number ≡ suc k → pick R s device ≡ refusal (check R s .number) (check R s .place)
   pub query : (pick R s device ≡ refusal 9 0) ↔ (Accepted R s × (empty (R .canon device) ≡ true))
   pub none : (pick R s device ≡ refusal 10 0) ↔ (Asked R s device × ((i : ℕ) → i < count s → compatibleAt R s device i ≡ false))

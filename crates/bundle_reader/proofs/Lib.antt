@@ -5,3 +5,4 @@ pub mod RecordLaws
 pub mod ChoiceLaws
 pub mod LocatedLaws
 pub mod IdLaws
+pub mod OverlapLaws

@@ -9,7 +9,7 @@ use lib.Dec.{ltb}
 use lib.ListN.{length}
 use borrow.Author.Tests.{leb-true, le-leb, lt-ltb, le-ltb, ltb-false}
 use Rattle.wire.specs.First.{first}
-use Rattle.wire.specs.Stop.{Stop, stop, _⨾_, stopIf, stopWhen, stopAt}
+use Rattle.wire.specs.Stop.{go, Stop, stop, _⨾_, stopIf, stopWhen, stopAt}
 use Rattle.wire.proofs.Bools.{byBool, and-both, both-and, not-no, yes-not}
 use Rattle.wire.proofs.FirstLaws.{first-none}
 use Rattle.wire.proofs.StopLaws.{⨾-go, ⨾-next, ⨾-assoc, ⨾-left, ⨾-right, stopIf-no, stopAt-no, stopAt-found, stopAt-clear}
@@ -67,7 +67,7 @@ module _ (room n : ℕ) (rows : List EntryRecord) where
     parts-none h = rw (le-ltb 64 n few) (sym (⨾-go _ ∙ stopAt-clear 4 n _ bad e h))
 
 module _ (R : IdRules) (ids : List ℕ) (len n : ℕ) (rows : List EntryRecord) (number place : ℕ) (e : stop number place ≡ partsStop (length ids) n rows) where
-  answer : (k i : ℕ) → stop k i ≡ partsStop (length ids) n rows ⨾ rowsStop R 0 len n (rowsOf ids rows) → _≡_ {A = Refusal} (record { number = k; place = i }) (examinedRecords R ids len n rows)
+  answer : (k i : ℕ) → stop k i ≡ partsStop (length ids) n rows ⨾ rowsStop R go 0 len n (rowsOf ids rows) → _≡_ {A = Refusal} (record { number = k; place = i }) (examinedRecords R ids len n rows)
   unfolding examinedRecords recordsStop
   answer k i q = ap (λ (t : Stop). record { number = t .number; place = t .place }) (q ∙ ⨾-assoc (stopIf 3 (ltb 64 n)) _ _)
 
@@ -89,7 +89,7 @@ module _ (R : IdRules) (ids : List ℕ) (len n : ℕ) (rows : List EntryRecord) 
     pub records-in : (k : ℕ) → k < n → recordAt rows k .«id_start» + recordAt rows k .«id_len» ≤ length ids
     records-in k h = partFits (length ids) (recordAt rows k) .0 (stopAt-no 3 n _ (⨾-right _ _ none) k h) .inside
 
-    pub records-rest : (k i : ℕ) → stop k i ≡ rowsStop R 0 len n (rowsOf ids rows) → _≡_ {A = Refusal} (record { number = k; place = i }) (examinedRecords R ids len n rows)
+    pub records-rest : (k i : ℕ) → stop k i ≡ rowsStop R go 0 len n (rowsOf ids rows) → _≡_ {A = Refusal} (record { number = k; place = i }) (examinedRecords R ids len n rows)
     records-rest k i q = answer k i (q ∙ sym (⨾-next _ _ none))
 
     pub rest-forms : first n (λ i. badId R (rowsOf ids rows i)) ≡ formsOfRecords R ids n rows

@@ -2,7 +2,7 @@
 use Prim.Native.Nat.{ℕ, _+_, _<_, _≤_}
 use native.Mathlib.Omega.{arith}
 use native.Mathlib.Numerals.{add-one}
-use mathlib.Core.Path.{_≡_, sym, ap, ap₂, _∙_}
+use mathlib.Core.Path.{_≡_, sym, ap, _∙_}
 use mathlib.Core.Bool.{Bool, true, false}
 use mathlib.Core.List.{List}
 use lib.ListN.{length, getD, set, replicate, length-replicate}
@@ -15,7 +15,7 @@ use Rattle.bundle.specs.Accepted.{RowFits}
 use Rattle.bundle.specs.Records.{noRecord, recordAt, rowOf, rowsOf}
 use Rattle.bundle_reader.specs.Examined.{heldRow, rowsIn}
 use Rattle.bundle_reader.specs.Slots.{Rows}
-use Rattle.bundle_reader.proofs.SlotLaws.{filled-at, filled-next}
+use Rattle.bundle_reader.proofs.SlotLaws.{filled-at, filled-more}
 use Rattle.bundle.specs.declared.EntryRecord.{EntryRecord}
 use Rattle.bundle.proofs.CheckLaws.{rowFits}
 
@@ -56,7 +56,7 @@ module _ (s : List ℕ) (i at : ℕ) (e : at ≡ rowStart s i) where
 
     pub rows-more : (rows : List EntryRecord) → rows ≡ rowsIn s i → set rows i r ≡ rowsIn s (i + 1)
     unfolding rowsIn
-    rows-more rows p = ap₂ (λ z x. set z i x) p (q ∙ ap (heldRow s) e) ∙ sym (filled-next (replicate 64 noRecord) i (λ k. heldRow s (rowStart s k)))
+    rows-more rows p = filled-more (replicate 64 noRecord) i (λ k. heldRow s (rowStart s k)) rows r p (q ∙ ap (heldRow s) e)
 
 -- ---- rows that were read
 

@@ -98,9 +98,9 @@ module _ {A : Type 0} where
   filled-same l zero f g e = refl
   filled-same l (suc m) f g e = ap₂ (λ z x. set z m x) (filled-same l m f g (λ k h. e k (omega arith))) (e m (omega arith))
 
-  pub filled-next : (l : List A) (i : ℕ) (f : ℕ → A) → filled l (i + 1) f ≡ set (filled l i f) i (f i)
+  pub filled-more : (l : List A) (i : ℕ) (f : ℕ → A) (z : List A) (x : A) → z ≡ filled l i f → x ≡ f i → set z i x ≡ filled l (i + 1) f
   unfolding filled
-  filled-next l i f = rw (add-one i)
+  filled-more l i f z x p q = ap₂ (λ y w. set y i w) p q ∙ rw (add-one i)
 
 pub length-slots : (t : List ℕ) (m : ℕ) (f : ℕ → List ℕ) → length (slots t m f) ≡ length t
 unfolding slots
@@ -168,8 +168,8 @@ module _ (R : IdRules) (rows : ℕ → Row) (i : ℕ) (texts₀ lens₀ keys₀ 
     unfolding form formLength
     formed-more = record {
       texts-are = w ∙ ap₂ (λ z x. overwrite z (i * 256) (R .canon x)) (f .texts-are) e ∙ sym (slots-next texts₀ i (form R rows));
-      lens-are = ap (set lens i) size ∙ ap₂ (λ z x. set z i (length (R .canon x))) (f .lens-are) e ∙ sym (filled-next lens₀ i (formLength R rows));
-      keys-are = ap (set keys i) number ∙ ap₂ (λ z x. set z i (headKey (R .canon x))) (f .keys-are) e ∙ sym (filled-next keys₀ i (λ k. headKey (form R rows k)));
+      lens-are = filled-more lens₀ i (formLength R rows) lens _ (f .lens-are) (size ∙ ap (λ x. length (R .canon x)) e);
+      keys-are = filled-more keys₀ i (λ k. headKey (form R rows k)) keys _ (f .keys-are) (number ∙ ap (λ x. headKey (R .canon x)) e);
     }
 
     pub fine-here : (made .length ≡ 0 → ⊥) → badId R (rows i) ≡ false

@@ -16,17 +16,17 @@ use Rattle.wire.proofs.FirstLaws.{first-is, first-none, first-before, any-same}
 use Rattle.wire.proofs.StopLaws.{⨾-go, ⨾-stop, ⨾-first, ⨾-next, ⨾-left, ⨾-right, stopAt-same, stopAt-found, stopAt-clear}
 use Rattle.entry_id.specs.IdRules.{IdRules, Lawful}
 use Rattle.bundle.specs.Table.{Row, count, rowStart, row, tableEnd}
-use Rattle.bundle.specs.Check.{badRow, badId, outside, meanSame, mix, unrefused, headStop, tableStop, rowsStop, bundleStop, check}
+use Rattle.bundle.specs.Check.{badRow, badId, outside, overlapStop, meanSame, mix, unrefused, headStop, tableStop, rowsStop, bundleStop, check}
 use Rattle.bundle.specs.Accepted.{RowFits, Accepted}
 use Rattle.bundle.specs.Records.{rowOf}
 use Rattle.bundle.specs.declared.EntryRecord.{EntryRecord}
 use Rattle.bundle.specs.declared.Checked.{Checked}
 use Rattle.canonical_form.specs.Made.{formOf}
 use Rattle.canonical_form.specs.declared.Form.{Form}
-use Rattle.bundle.proofs.CheckLaws.{rowFits, unrefused-go, unrefused-stop}
-use Rattle.bundle.proofs.AcceptLaws.{accepted, counted}
+use Rattle.bundle.proofs.CheckLaws.{rowFits, inside, unrefused-go, unrefused-stop}
+use Rattle.bundle.proofs.AcceptLaws.{accepted, counted, sized}
 use Rattle.bundle_reader.specs.Examined.{filled, slots, text, form, formLength, made, rowsIn, examined, formsOf}
-use Rattle.bundle_reader.specs.Slots.{Rows, Passed, Tabled, Room, Formed, Staged, firstMore, Held, Texts, relation, Examination}
+use Rattle.bundle_reader.specs.Slots.{Rows, Passed, Tabled, Room, Formed, Staged, firstMore, Held, Texts, relation, Inner, Compared, Examination}
 use Rattle.bundle_reader.specs.declared.Examined.{Examined}
 use Rattle.bundle_reader.proofs.RowLaws.{rows-are}
 use Rattle.bundle_reader.proofs.SlotLaws.{first-more, held, formed-room, formed-more, formed-bad, bad-here, fine-here, formed-texts}
@@ -72,25 +72,25 @@ unfolding earlier
 related-rows R rows texts lens k n f g held same =
     stopAt-same k n _ _ (λ i h. any-same i _ _ (λ j l. ap₂ f (held j (omega arith) .text-is) (held i h .text-is) ∙ same (rows j) (rows i)))
 
-module _ (R : IdRules) (rows : ℕ → Row) (n end len bad : ℕ) (bad-is : bad ≡ first n (λ i. badId R (rows i))) where
-  pub at-5 : bad < n → stop 5 bad ≡ rowsStop R end len n rows
+module _ (R : IdRules) (between : Stop) (rows : ℕ → Row) (n end len bad : ℕ) (bad-is : bad ≡ first n (λ i. badId R (rows i))) where
+  pub at-5 : bad < n → stop 5 bad ≡ rowsStop R between end len n rows
   unfolding rowsStop
   at-5 h = found-at 4 n _ bad _ bad-is h
 
   module _ (none : n ≤ bad) (out : ℕ) (out-is : out ≡ first n (λ i. outside end len (rows i .offset) (rows i .size))) where
-    past-5 : (t : Stop) → t ≡ stopAt 6 n (λ i. outside end len (rows i .offset) (rows i .size)) ⨾ stopAt 7 n (earlier (meanSame R) rows) ⨾ stopAt 8 n (earlier (mix R) rows) → t ≡ rowsStop R end len n rows
+    past-5 : (t : Stop) → t ≡ stopAt 6 n (λ i. outside end len (rows i .offset) (rows i .size)) ⨾ between ⨾ stopAt 7 n (earlier (meanSame R) rows) ⨾ stopAt 8 n (earlier (mix R) rows) → t ≡ rowsStop R between end len n rows
     unfolding rowsStop
     past-5 t e = past 5 n _ bad _ t bad-is none e
 
-    pub at-6 : out < n → stop 6 out ≡ rowsStop R end len n rows
+    pub at-6 : out < n → stop 6 out ≡ rowsStop R between end len n rows
     at-6 h = past-5 _ (found-at 5 n _ out _ out-is h)
 
     pub past-6 : n ≤ out → (texts lens : List ℕ) → ((k : ℕ) → k < n → Held R rows texts lens k) → (t : Stop)
-        → t ≡ stopAt 7 n (earlier (relation R true) (text texts lens)) ⨾ stopAt 8 n (earlier (relation R false) (text texts lens)) → t ≡ rowsStop R end len n rows
+        → t ≡ between ⨾ stopAt 7 n (earlier (relation R true) (text texts lens)) ⨾ stopAt 8 n (earlier (relation R false) (text texts lens)) → t ≡ rowsStop R between end len n rows
     unfolding meanSame mix
     past-6 inside texts lens held t e =
         past-5 t (past 6 n _ out _ t out-is inside
-        (e ∙ ap₂ _⨾_ (related-rows R rows texts lens 7 n (R .sameMeaning) (meanSame R) held (λ r q. refl)) (related-rows R rows texts lens 8 n (R .mixed) (mix R) held (λ r q. refl))))
+        (e ∙ ap₂ (λ x y. between ⨾ x ⨾ y) (related-rows R rows texts lens 7 n (R .sameMeaning) (meanSame R) held (λ r q. refl)) (related-rows R rows texts lens 8 n (R .mixed) (mix R) held (λ r q. refl))))
 
 -- ---- what was made of rows
 
@@ -126,10 +126,10 @@ module _ (R : IdRules) (rows : ℕ → Row) (end len i out : ℕ) (texts₀ lens
       out-is = p ∙ first-more out i _ _ (st .out-is) (ap (λ z. outside end len (z .offset) (z .size)) e);
     }
 
-    pub staged-bad : (n : ℕ) → i < n → made .length ≡ 0 → (stop 5 i ≡ rowsStop R end len n rows) × Formed R rows (first n (λ k. badId R (rows k))) texts₀ lens₀ keys₀ after lens keys
-    staged-bad n h y =
+    pub staged-bad : (between : Stop) (n : ℕ) → i < n → made .length ≡ 0 → (stop 5 i ≡ rowsStop R between end len n rows) × Formed R rows (first n (λ k. badId R (rows k))) texts₀ lens₀ keys₀ after lens keys
+    staged-bad between n h y =
         let b = sym (first-is n (λ k. badId R (rows k)) i h (bad-here R rows i texts₀ lens₀ keys₀ texts lens keys (st .formed) _ after made id-is q w y) (st .named)) in
-        (at-5 R rows n end len i b h, formed-is R rows i _ texts₀ lens₀ keys₀ after lens keys b (formed-bad R rows i texts₀ lens₀ keys₀ texts lens keys (st .formed) _ after made id-is q w y))
+        (at-5 R between rows n end len i b h, formed-is R rows i _ texts₀ lens₀ keys₀ after lens keys b (formed-bad R rows i texts₀ lens₀ keys₀ texts lens keys (st .formed) _ after made id-is q w y))
 
 -- past its last row
 module _ (R : IdRules) (L : Lawful R) (rows : ℕ → Row) (end len n i out : ℕ) (texts₀ lens₀ keys₀ texts lens keys : List ℕ) (st : Staged R rows end len i out texts₀ lens₀ keys₀ texts lens keys) (below : i ≤ n) (past : n ≤ i) (room : Room n texts₀ lens₀ keys₀) where
@@ -139,19 +139,17 @@ module _ (R : IdRules) (L : Lawful R) (rows : ℕ → Row) (end len n i out : �
   pub staged-texts : Texts R texts lens keys n
   staged-texts = formed-texts R L rows n texts₀ lens₀ keys₀ texts lens keys room (whole .formed) (whole .named)
 
-  -- what 6 to 8 say then
-  pub staged-rest : (number place : ℕ) → (out < n → stop number place ≡ stop 6 out)
-      × (n ≤ out → stop number place ≡ stopAt 7 n (earlier (relation R true) (text texts lens)) ⨾ stopAt 8 n (earlier (relation R false) (text texts lens)))
-      → (stop number place ≡ rowsStop R end len n rows) × Formed R rows (first n (λ k. badId R (rows k))) texts₀ lens₀ keys₀ texts lens keys
-  staged-rest number place (a, b) =
+  -- what 6 to 8, and `between`, say then
+  pub staged-rest : (between t : Stop) → Compared R between out n texts lens t → (t ≡ rowsStop R between end len n rows) × Formed R rows (first n (λ k. badId R (rows k))) texts₀ lens₀ keys₀ texts lens keys
+  staged-rest between t c =
       let w = whole in
       let none : n ≡ first n (λ k. badId R (rows k)) = sym (first-none n _ (w .named)) in (
         byBool (ltb out n)
-            (λ t. a (ltb-true out n t) ∙ at-6 R rows n end len n none (omega arith) out (w .out-is) (ltb-true out n t))
+            (λ l. c .outside (ltb-true out n l) ∙ at-6 R between rows n end len n none (omega arith) out (w .out-is) (ltb-true out n l))
             (λ f.
             let h : n ≤ out = ltb-false out n f in
-            past-6 R rows n end len n none (omega arith) out (w .out-is) h texts lens
-            (held R L rows n texts₀ lens₀ texts lens (room .texts-room) (room .lens-room) (w .formed .texts-are) (w .formed .lens-are)) _ (b h)),
+            past-6 R between rows n end len n none (omega arith) out (w .out-is) h texts lens
+            (held R L rows n texts₀ lens₀ texts lens (room .texts-room) (room .lens-room) (w .formed .texts-are) (w .formed .lens-are)) _ (c .rest h)),
         formed-is R rows n _ texts₀ lens₀ keys₀ texts lens keys none (w .formed),
       )
 
@@ -166,7 +164,7 @@ module _ (R : IdRules) (s : List ℕ) where
   }
 
   module _ (head : headStop s ≡ go) (n bad : ℕ) (q : n ≡ count s) (b : bad ≡ first n (λ i. badRow s (rowStart s i))) where
-    past-3 : (u : Stop) → u ≡ tableStop s ⨾ rowsStop R (tableEnd s) (length s) (count s) (row s) → u ≡ bundleStop R s
+    past-3 : (u : Stop) → u ≡ tableStop s ⨾ rowsStop R (overlapStop (count s) (row s)) (tableEnd s) (length s) (count s) (row s) → u ≡ bundleStop R s
     unfolding bundleStop
     past-3 u p = rw head (p ∙ sym (⨾-go _))
 
@@ -190,15 +188,25 @@ module _ (R : IdRules) (s : List ℕ) where
           stops = λ h. absurd (omega arith);
           passes = λ z. record {
             few = omega (arith, q, counted s (ap (λ (u : Stop). u .number) head) .1);
+            short = sized s (ap (λ (u : Stop). u .number) head);
             count-is = q;
             fits = λ k h. rowFits s (rowStart s k) .0 (first-before n (λ i. badRow s (rowStart s i)) k (omega (arith, b)));
-            rest = ap₂ (λ x y. rowsStop R x (length s) y (row s)) (e ∙ ap (rowStart s) q) q ∙ past-3 _ (past 4 (count s) _ bad _ _ bad-is (omega arith) refl);
+            rest = ap₂ (λ x y. rowsStop R (overlapStop y (row s)) x (length s) y (row s)) (e ∙ ap (rowStart s) q) q ∙ past-3 _ (past 4 (count s) _ bad _ _ bad-is (omega arith) refl);
             forms = ap (λ m. first m (λ i. badId R (row s i))) q ∙ sym (unrefused-go (headStop s ⨾ tableStop s) _ (ap (λ (u : Stop). u .number) g));
           };
         }
 
 pub passed-room : (R : IdRules) (s : List ℕ) (n end : ℕ) → Passed R s n end → (texts lens keys : List ℕ) → (count s ≤ 64 → Room (count s) texts lens keys) → Room n texts lens keys
 passed-room R s n end p texts lens keys room = rw (p .count-is) (room (omega (arith, p .few, p .count-is)))
+
+-- past the last row, where no image is outside
+pub staged-inner : (R : IdRules) (s : List ℕ) (end n i out : ℕ) (texts₀ lens₀ keys₀ texts lens keys : List ℕ) → Staged R (row s) end (length s) i out texts₀ lens₀ keys₀ texts lens keys
+    → n ≤ i → n ≤ out → Passed R s n end → Inner s n
+staged-inner R s end n i out texts₀ lens₀ keys₀ texts lens keys st past none p = record {
+  short = p .short;
+  fits = p .fits;
+  inside = λ k h. inside end (length s) _ _ .0 (first-before i (λ j. outside end (length s) (row s j .offset) (row s j .size)) k (omega (arith, st .out-is))) .within;
+}
 
 -- ---- the answer
 

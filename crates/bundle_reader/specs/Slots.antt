@@ -2,16 +2,17 @@
 use Prim.Native.Nat.{ℕ, _+_, _*_, _<_, _≤_}
 use mathlib.Core.Path.{_≡_}
 use mathlib.Core.Bool.{Bool, true, false, _||_}
-use mathlib.Core.List.{List}
+use mathlib.Core.List.{List, []}
 use lib.Dec.{eqb, ltb}
 use lib.ListN.{length, getD}
 use Rattle.wire.specs.Bytes.{empty}
 use Rattle.wire.specs.First.{first}
-use Rattle.wire.specs.Stop.{Stop, stop}
+use Rattle.wire.specs.Limit.{limit}
+use Rattle.wire.specs.Stop.{Stop, stop, _⨾_, stopAt, earlier}
 use Rattle.entry_id.specs.Canonical.{headKey}
 use Rattle.entry_id.specs.IdRules.{IdRules}
 use Rattle.bundle.specs.Table.{Row, count, rowStart, row}
-use Rattle.bundle.specs.Check.{badId, outside, unrefused, rowsStop, bundleStop}
+use Rattle.bundle.specs.Check.{badId, outside, overlapStop, unrefused, rowsStop, bundleStop}
 use Rattle.bundle.specs.Accepted.{RowFits, Accepted}
 use Rattle.bundle.specs.Records.{rowsOf}
 use Rattle.bundle.specs.declared.Checked.{Checked}
@@ -27,12 +28,13 @@ pub record Rows (s : List ℕ) (n : ℕ) (rows : List EntryRecord) : Type 0 wher
   pub fits : (k : ℕ) → k < n → RowFits s (rowStart s k)
   pub are : rows ≡ rowsIn s n
 
--- a bundle of n rows with a table that ends at `end`, which 1 to 4 do not refuse: what 5 to 8 say of it, and how many forms are made
+-- a bundle of n rows with a table that ends at `end`, which 1 to 4 do not refuse: what 5 to 8 and 21 say of it, and how many forms are made
 pub record Passed (R : IdRules) (s : List ℕ) (n end : ℕ) : Type 0 where
   pub few : n ≤ 64
+  pub short : length s ≤ limit
   pub count-is : n ≡ count s
   pub fits : (k : ℕ) → k < n → RowFits s (rowStart s k)
-  pub rest : rowsStop R end (length s) n (row s) ≡ bundleStop R s
+  pub rest : rowsStop R (overlapStop n (row s)) end (length s) n (row s) ≡ bundleStop R s
   pub forms : first n (λ i. badId R (row s i)) ≡ formsOf R s
 
 -- what 1 to 4 say
@@ -122,3 +124,36 @@ pub record Examination (R : IdRules) (s texts lens : List ℕ) (number place n :
   pub count-is : n ≡ unrefused (bundleStop R s) (count s)
   pub rows-are : number ≡ 0 → (k : ℕ) → k < n → rowsOf s records k ≡ row s k
   pub held : number ≡ 0 → (k : ℕ) → k < n → Held R (row s) texts lens k
+
+-- ---- images
+
+-- n rows are whole, and their images lie inside
+pub record Inner (s : List ℕ) (n : ℕ) : Type 0 where
+  pub short : length s ≤ limit
+  pub fits : (k : ℕ) → k < n → RowFits s (rowStart s k)
+  pub inside : (k : ℕ) → k < n → row s k .offset + row s k .size ≤ length s
+
+-- an image of `size` bytes at `offset`, as a row whose ID does not matter
+abbrev pub span : ℕ → ℕ → Row
+span offset size = record { offset = offset; size = size; id = [] }
+
+-- image k of two lists of numbers
+unfoldable pub spans : List ℕ → List ℕ → ℕ → Row
+spans starts sizes k = span (getD starts k 0) (getD sizes k 0)
+
+-- n of them are there and end within the limit
+pub record Spans (starts sizes : List ℕ) (n : ℕ) : Type 0 where
+  pub starts-room : n ≤ length starts
+  pub sizes-room : n ≤ length sizes
+  pub short : (k : ℕ) → k < n → getD starts k 0 + getD sizes k 0 ≤ limit
+
+-- the first i images lie from `low` to `high`
+abbrev pub Within : List ℕ → ℕ → ℕ → ℕ → Type 0
+Within s i low high = (k : ℕ) → k < i → (low ≤ row s k .offset) × (row s k .offset + row s k .size ≤ high)
+
+-- ---- 6 to 8, and what is asked between
+
+-- t is what 6, `between`, 7 and 8 say of n slots, of whose rows `out` is the first outside, or n
+pub record Compared (R : IdRules) (between : Stop) (out n : ℕ) (texts lens : List ℕ) (t : Stop) : Type 0 where
+  pub outside : out < n → t ≡ stop 6 out
+  pub rest : n ≤ out → t ≡ between ⨾ stopAt 7 n (earlier (relation R true) (text texts lens)) ⨾ stopAt 8 n (earlier (relation R false) (text texts lens))

@@ -7,11 +7,12 @@ ghost use lib.Dec.{ltb};
 ghost use lib.ListN.{length, take, drop, replicate};
 ghost use Rattle.wire.specs.Bytes.{overwrite};
 ghost use Rattle.wire.specs.First.{first};
+ghost use Rattle.wire.specs.Limit.{limit};
 ghost use Rattle.wire.specs.Stop.{go, stop, _⨾_, stopIf, stopAt, earlier};
 ghost use Rattle.entry_id.specs.Canonical.{headKey};
 ghost use Rattle.entry_id.specs.Rules.{idRules};
 ghost use Rattle.bundle.specs.Table.{count, rowStart, row};
-ghost use Rattle.bundle.specs.Check.{badRow, outside, unrefused, headStop, check};
+ghost use Rattle.bundle.specs.Check.{badRow, outside, overlaps, overlapStop, unrefused, headStop, check};
 ghost use Rattle.bundle.specs.Pick.{pick};
 ghost use Rattle.bundle.specs.Accepted.{RowFits};
 ghost use Rattle.bundle.specs.Theorems.{refusal};
@@ -19,7 +20,7 @@ ghost use Rattle.bundle.specs.EntryAt.{entryAt, unlocated};
 ghost use Rattle.bundle.specs.Records.{noRecord, recordAt, rowsOf, badPart};
 ghost use Rattle.canonical_form.specs.Made.{formOf};
 ghost use Rattle.bundle_reader.specs.Examined.{filled, slots, text, form, formLength, heldRow, rowsIn, examined, formsOf, examinedRecords, formsOfRecords};
-ghost use Rattle.bundle_reader.specs.Slots.{Tabled, firstMore, Room, Formed, Canonical, Texts, Pickable, Known, near, relation, relations};
+ghost use Rattle.bundle_reader.specs.Slots.{Inner, span, spans, Spans, Compared, Tabled, firstMore, Room, Formed, Canonical, Texts, Pickable, Known, near, relation, relations};
 use bundle::Checked;
 use bundle::EntryRecord;
 use bundle::Located;
@@ -299,20 +300,133 @@ fn related_before(texts: &[u8], lens: &[usize], keys: &[u64], from: usize, i: us
     Relation { same: false, mixed }
 }
 
+// 21 OVERLAP, of two images: `len` bytes at `start`, `size` bytes at `offset`.
+fn overlap(start: usize, len: usize, offset: usize, size: usize) -> bool
+    requires { ⌜ (start + len ≤ limit) × (offset + size ≤ limit) ⌝ }
+    ensures { λ r. ⌜ r ≡ overlaps (span start len) (span offset size) ⌝ }
+{
+    let shared = (0 < len) & (0 < size) & (start < offset + size) & (offset < start + len);
+    shared & !((start == offset) & (len == size))
+}
+
+// 21, of image i: whether an earlier one shares a byte with it and is not the same span.
+fn overlaps_before(starts: &[usize], sizes: &[usize], i: usize) -> bool
+    requires { ⌜ Spans (now starts) (now sizes) (i + 1) ⌝ }
+    ensures { λ r. ⌜ r ≡ earlier overlaps (spans (now (starts .entry)) (now (sizes .entry))) i ⌝ }
+{
+    let mut earlier: usize = 0;
+    while earlier < i {
+        if overlap(starts[earlier], sizes[earlier], starts[i], sizes[i]) {
+            return true;
+        }
+        earlier += 1;
+    }
+    false
+}
+
+// 21: the first of n images that overlaps an earlier one, or n.
+fn first_overlap_of(starts: &[usize], sizes: &[usize], n: usize) -> usize
+    requires { ⌜ Spans (now starts) (now sizes) n ⌝ }
+    ensures { λ r. ⌜ r ≡ first n (earlier overlaps (spans (now (starts .entry)) (now (sizes .entry)))) ⌝ }
+{
+    let mut i: usize = 0;
+    while i < n {
+        if overlaps_before(starts, sizes, i) {
+            return i;
+        }
+        i += 1;
+    }
+    i
+}
+
+// Where the images of n rows start, and their sizes.
+fn read_spans(s: &[u8], n: usize, starts: &mut [usize], sizes: &mut [usize])
+    requires { ⌜ Inner (now s) n × (n ≤ length (now starts)) × (n ≤ length (now sizes)) ⌝ }
+    ensures { λ _. ⌜ (now (starts .exit) ≡ filled (now (starts .entry)) n (λ k. row (now (s .entry)) k .offset)) × (now (sizes .exit) ≡ filled (now (sizes .entry)) n (λ k. row (now (s .entry)) k .size)) ⌝ }
+{
+    let mut i: usize = 0;
+    let mut at: usize = 32;
+    while i < n {
+        let row = row_at(s, at);
+        starts[i] = row.image_start;
+        sizes[i] = row.image_len;
+        at = row.id_start + row.id_len;
+        i += 1;
+    }
+}
+
+// The lower of two numbers.
+fn lower(a: usize, b: usize) -> usize
+    ensures { λ r. ⌜ (r ≤ a) × (r ≤ b) ⌝ }
+{
+    if a < b {
+        return a;
+    }
+    b
+}
+
+// The higher of two numbers.
+fn higher(a: usize, b: usize) -> usize
+    ensures { λ r. ⌜ (a ≤ r) × (b ≤ r) ⌝ }
+{
+    if b < a {
+        return a;
+    }
+    b
+}
+
+// Whether each of n images lies above or below all that come before it, as they do in rising and in falling order. Then no two share a byte.
+fn side_by_side(s: &[u8], n: usize) -> bool
+    requires { ⌜ Inner (now s) n ⌝ }
+    ensures { λ r. ⌜ (r ≡ true → (i : ℕ) → i < n → earlier overlaps (row (now (s .entry))) i ≡ false) ⌝ }
+{
+    let mut i: usize = 0;
+    let mut at: usize = 32;
+    let mut low = s.len();
+    let mut high: usize = 0;
+    while i < n {
+        let row = row_at(s, at);
+        let start = row.image_start;
+        let end = start + row.image_len;
+        if (start < high) & (low < end) {
+            return false;
+        }
+        low = lower(low, start);
+        high = higher(high, end);
+        at = row.id_start + row.id_len;
+        i += 1;
+    }
+    true
+}
+
+// 21: the first of n rows whose image overlaps an earlier one, or n. Images are compared in pairs only where their order does not settle it.
+fn first_overlap(s: &[u8], n: usize) -> usize
+    requires { ⌜ Inner (now s) n × (n ≤ 64) ⌝ }
+    ensures { λ r. ⌜ r ≡ first n (earlier overlaps (row (now (s .entry)))) ⌝ }
+{
+    if n < 2 {
+        return n;
+    }
+    if side_by_side(s, n) {
+        return n;
+    }
+    let mut starts = [0usize; 64];
+    let mut sizes = [0usize; 64];
+    read_spans(s, n, &mut starts, &mut sizes);
+    first_overlap_of(&starts, &sizes, n)
+}
+
 fn refused(number: usize, place: usize) -> Refusal
     ensures { λ r. ⌜ r ≡ record { number = number; place = place } ⌝ }
 {
     Refusal { number, place }
 }
 
-// 6 to 8: the first that refuses n slots, of whose rows `out` is the first outside, or n; else 0.
-fn compare(out: usize, texts: &[u8], lens: &[usize], keys: &[u64], n: usize) -> Refusal
+// 7 and 8: the first that refuses n slots; else 0.
+fn compare(texts: &[u8], lens: &[usize], keys: &[u64], n: usize) -> Refusal
     requires { ⌜ Texts idRules (now texts) (now lens) (now keys) n × (n ≤ 64) ⌝ }
-    ensures { λ r. ⌜ (out < n → stop (r .number) (r .place) ≡ stop 6 out) × (n ≤ out → stop (r .number) (r .place) ≡ stopAt 7 n (earlier (relation idRules true) (text (now (texts .entry)) (now (lens .entry)))) ⨾ stopAt 8 n (earlier (relation idRules false) (text (now (texts .entry)) (now (lens .entry))))) ⌝ }
+    ensures { λ r. ⌜ stop (r .number) (r .place) ≡ stopAt 7 n (earlier (relation idRules true) (text (now (texts .entry)) (now (lens .entry)))) ⨾ stopAt 8 n (earlier (relation idRules false) (text (now (texts .entry)) (now (lens .entry)))) ⌝ }
 {
-    if out < n {
-        return refused(6, out);
-    }
     let mut i: usize = 0;
     let mut from: usize = 0;
     let mut mix: usize = 0;
@@ -329,6 +443,39 @@ fn compare(out: usize, texts: &[u8], lens: &[usize], keys: &[u64], n: usize) -> 
         return refused(8, mix);
     }
     refused(0, 0)
+}
+
+// 6 to 8: the first that refuses n records, of which `out` is the first outside, or n; else 0.
+fn compare_records(out: usize, texts: &[u8], lens: &[usize], keys: &[u64], n: usize) -> Refusal
+    requires { ⌜ Texts idRules (now texts) (now lens) (now keys) n × (n ≤ 64) ⌝ }
+    ensures { λ r. ⌜ Compared idRules go out n (now (texts .entry)) (now (lens .entry)) (stop (r .number) (r .place)) ⌝ }
+{
+    if out < n {
+        return refused(6, out);
+    }
+    compare(texts, lens, keys, n)
+}
+
+// 6, 21, 7 and 8: the first that refuses n rows, of which `out` is the first outside, or n; else 0.
+fn compare_rows(
+    s: &[u8],
+    out: usize,
+    texts: &[u8],
+    lens: &[usize],
+    keys: &[u64],
+    n: usize,
+) -> Refusal
+    requires { ⌜ Texts idRules (now texts) (now lens) (now keys) n × (n ≤ 64) × (n ≤ out → Inner (now s) n) ⌝ }
+    ensures { λ r. ⌜ Compared idRules (overlapStop n (row (now (s .entry)))) out n (now (texts .entry)) (now (lens .entry)) (stop (r .number) (r .place)) ⌝ }
+{
+    if out < n {
+        return refused(6, out);
+    }
+    let lap = first_overlap(s, n);
+    if lap < n {
+        return refused(21, lap);
+    }
+    compare(texts, lens, keys, n)
 }
 
 // 3 and 4: the first that refuses n records whose IDs lie in a buffer of `room` bytes; else 0.
@@ -379,7 +526,7 @@ fn examine_records_in(
         out = first_outside(out, i, row, 0, len);
         i += 1;
     }
-    compare(out, texts, lens, keys, n)
+    compare_records(out, texts, lens, keys, n)
 }
 
 // 3 to 8 of n records, with IDs in `ids` and images in a buffer of `len` bytes: the first that refuses them; else 0, and the canonical IDs in their slots.
@@ -426,7 +573,7 @@ fn checked(r: Refusal, n: usize) -> Checked
     }
 }
 
-// 1 to 8 of a bundle, with the canonical IDs in their slots. Each row is read once, when its turn comes.
+// 1 to 8 and 21 of a bundle, with the canonical IDs in their slots. For 5 and 6 each row is read once, when its turn comes.
 fn check_in(s: &[u8], texts: &mut [u8], lens: &mut [usize], keys: &mut [u64]) -> Checked
     requires { ⌜ (count (now s) ≤ 64 → Room (count (now s)) (now texts) (now lens) (now keys)) ⌝ }
     ensures { λ r. ⌜ (r ≡ check idRules (now (s .entry))) × Formed idRules (row (now (s .entry))) (formsOf idRules (now (s .entry))) (now (texts .entry)) (now (lens .entry)) (now (keys .entry)) (now (texts .exit)) (now (lens .exit)) (now (keys .exit)) ⌝ }
@@ -453,7 +600,7 @@ fn check_in(s: &[u8], texts: &mut [u8], lens: &mut [usize], keys: &mut [u64]) ->
         out = first_outside(out, i, row, t.end, s.len());
         i += 1;
     }
-    checked(compare(out, texts, lens, keys, n), n)
+    checked(compare_rows(s, out, texts, lens, keys, n), n)
 }
 
 // The table of n rows, none of which is bad.
@@ -487,7 +634,7 @@ fn with_rows(s: &[u8], c: Checked) -> Examined
     }
 }
 
-// 1 to 8 of a bundle: the first that refuses it; else its count and rows, with the canonical IDs in their slots.
+// 1 to 8 and 21 of a bundle: the first that refuses it; else its count and rows, with the canonical IDs in their slots.
 pub fn examine(bundle: &[u8], texts: &mut [u8; 16384], lens: &mut [usize; 64]) -> Examined
     ensures { λ r. ⌜ r ≡ examined idRules (now (bundle .entry)) ⌝ }
     ensures { λ _. ⌜ now (texts .exit) ≡ slots (now (texts .entry)) (formsOf idRules (now (bundle .entry))) (form idRules (row (now (bundle .entry)))) ⌝ }

@@ -1,4 +1,4 @@
--- The examples that are marked * in RULES B, B.1 to B.10 and B.16: one table under one claim. Statements only.
+-- The examples that are marked * in RULES B, B.1 to B.10, B.16 and B.17: one table under one claim. Statements only.
 use Prim.Native.Nat.{ℕ, _+_}
 use mathlib.Core.Path.{_≡_}
 use mathlib.Core.Bool.{true, false}
@@ -13,7 +13,8 @@ use Rattle.bundle.specs.Table.{magic, tableEnd}
 use Rattle.bundle.specs.Check.{check}
 use Rattle.bundle.specs.Pick.{pick}
 use Rattle.bundle.specs.Layout.{bundle}
-use Rattle.bundle.specs.Normal.{normal, normalLength}
+use Rattle.bundle.specs.EntryAt.{entryAt, unlocated}
+use Rattle.bundle.specs.Normal.{normal, normalLength, normalise}
 use Rattle.offload_binary.specs.Binary.{refused, binaryAt}
 use Rattle.offload_binary.specs.Contents.{Contents, written}
 use Rattle.offload_binary.specs.Reader.{answer}
@@ -54,6 +55,16 @@ twoAt end x y = bundle (record { offset = end; size = 0; id = x } ∷ record { o
 
 abbrev pub two : List ℕ → List ℕ → List ℕ
 two x y = twoAt (80 + length x + length y) x y
+
+-- two entries with images of `m` and `n` bytes, which start `a` and `b` bytes after the table; eight bytes follow it
+abbrev pub images : List ℕ → List ℕ → ℕ → ℕ → ℕ → ℕ → List ℕ
+images x y a m b n =
+    let end = 80 + length x + length y in
+    bundle (record { offset = end + a; size = m; id = x } ∷ record { offset = end + b; size = n; id = y } ∷ []) (bytes "8 bytes.")
+
+-- the same with IDs that keep the rules
+abbrev pub spans : ℕ → ℕ → ℕ → ℕ → List ℕ
+spans = images (on gfx906) (off gfx906)
 
 -- one entry with an image of five bytes
 abbrev pub one : List ℕ → List ℕ
@@ -111,6 +122,29 @@ pub record Examples : Type 0 where
   -- "Offset equal to the length with size 0: accepted. Size 1 there: RANGE."
   pub at-end : check idRules (oneHost 0 []) ≡ record { number = 0; place = 0; count = 1 }
   pub past-end : check idRules (oneHost 1 []) ≡ record { number = 6; place = 0; count = 0 }
+  -- "two images of size above 0 are either the same span or share no byte": the same span twice; images that touch, in either order
+  pub span-twice : check idRules (spans 2 4 2 4) ≡ record { number = 0; place = 0; count = 2 }
+  pub touching : check idRules (spans 0 4 4 4) ≡ record { number = 0; place = 0; count = 2 }
+  pub touching-turned : check idRules (spans 4 4 0 4) ≡ record { number = 0; place = 0; count = 2 }
+  -- an empty image inside another
+  pub empty-inside : check idRules (spans 0 8 4 0) ≡ record { number = 0; place = 0; count = 2 }
+  pub empty-first : check idRules (spans 4 0 0 8) ≡ record { number = 0; place = 0; count = 2 }
+  -- "the lowest index whose image shares a byte with an earlier one's without being the same span": one byte at either end, the same start, the same end
+  pub last-byte : check idRules (spans 0 4 3 4) ≡ record { number = 21; place = 1; count = 0 }
+  pub first-byte : check idRules (spans 3 4 0 4) ≡ record { number = 21; place = 1; count = 0 }
+  pub same-start : check idRules (spans 0 4 0 5) ≡ record { number = 21; place = 1; count = 0 }
+  pub same-end : check idRules (spans 0 5 1 4) ≡ record { number = 21; place = 1; count = 0 }
+  -- "(lying wholly inside it or around it counts)"
+  pub inside : check idRules (spans 0 8 2 3) ≡ record { number = 21; place = 1; count = 0 }
+  pub around : check idRules (spans 2 3 0 8) ≡ record { number = 21; place = 1; count = 0 }
+  -- "after 6 .. and before 7"; 8 comes later still
+  pub range-first : check idRules (spans 0 4 3 9) ≡ record { number = 6; place = 1; count = 0 }
+  pub twice-later : check idRules (images gfx906 gfx906 0 4 3 4) ≡ record { number = 21; place = 1; count = 0 }
+  pub mixed-later : check idRules (images gfx906 (on gfx906) 0 4 3 4) ≡ record { number = 21; place = 1; count = 0 }
+  -- "It joins every list that says 1 to 8"
+  pub overlap-picked : pick idRules (spans 0 4 3 4) (on gfx906) ≡ record { number = 21; place = 1; index = 0; position = 0; size = 0 }
+  pub overlap-entry : entryAt idRules (spans 0 4 3 4) 0 ≡ unlocated 21 1
+  pub overlap-normalised : normalise idRules (spans 0 4 3 4) 1000 ≡ record { number = 21; place = 1; length = 0 }
   -- "Binary with no strings and no image: 72 bytes. With `arch`/`sm_70` and a 3-byte image: image at 104, size 112."
   pub bare-size : binaryAt (written bare) 0 .binary .size ≡ 72
   pub bare-length : length (written bare) ≡ 72

@@ -6,7 +6,7 @@ use mathlib.Core.List.{List}
 use lib.Dec.{ltb}
 use lib.ListN.{length}
 use borrow.Author.Tests.{ltb-true, ltb-false}
-use Rattle.wire.specs.Stop.{stop, _⨾_, stopIf}
+use Rattle.wire.specs.Stop.{go, stop, _⨾_, stopIf}
 use Rattle.wire.proofs.Bools.{byBool}
 use Rattle.wire.proofs.StopLaws.{⨾-stop, stopAt-same}
 use Rattle.entry_id.specs.IdRules.{IdRules}
@@ -39,7 +39,7 @@ module _ (R : IdRules) (n : ℕ) (a b : List EntryRecord) (ids images : List ℕ
     stop-same =
         ap₂ (λ s t. stopIf 3 (ltb 64 n) ⨾ s ⨾ t)
         (stopAt-same 4 n (λ i. badPart (length ids) (recordAt a i)) (λ i. badPart (length ids) (recordAt b i)) (λ i h. ap (badPart (length ids)) (same i h)))
-        (rowsStop-same R 0 (length images) n (rowsOf ids a) (rowsOf ids b) rows-same)
+        (rowsStop-same R go 0 (length images) n (rowsOf ids a) (rowsOf ids b) rows-same)
 
     write-few : (room : ℕ) → write R n a ids images room ≡ write R n b ids images room
     unfolding write writeStop

@@ -41,7 +41,7 @@ module _ (R : IdRules) (L : Lawful R) (s texts lens : List ℕ) (number place n 
   place-is : bundleStop R s .place ≡ place
   place-is = ap (λ t. t .place) (sym (x .stop-is))
 
-  -- 1 to 8
+  -- 1 to 8 and 21
   module _ (out : List ℕ) (h : 0 < number) where
     stops : normaliseStop R s (length out) ≡ bundleStop R s
     unfolding normaliseStop

@@ -4,7 +4,7 @@ use Rattle.wire.specs.Lists.{total, tab}
 use Rattle.wire.specs.First.{first, anyBelow}
 use Rattle.wire.specs.Stop.{_⨾_, stopWhen, stopIf, stopAt, earlier}
 use Rattle.bundle.specs.Table.{magic, count, rowStart, rowAt, row, tableEnd}
-use Rattle.bundle.specs.Check.{badRow, outside, headStop, tableStop, unrefused, badId, meanSame, mix, rowsStop, bundleStop, check}
+use Rattle.bundle.specs.Check.{badRow, outside, shareByte, sameSpan, overlaps, overlapStop, headStop, tableStop, unrefused, badId, meanSame, mix, rowsStop, bundleStop, check}
 use Rattle.bundle.specs.Pick.{compatibleAt, chosen, pickStop, pick}
 use Rattle.bundle.specs.EntryAt.{entryStop, entryAt}
 use Rattle.bundle.specs.Entry.{imageOf, entryOf, entriesOf}
@@ -16,5 +16,5 @@ use Rattle.selftest_ids.proofs.Computing.{ids}
 
 -- the check, the pick, entries and the normal form of a bundle
 unfoldable pub bundles : Unit {0}
-unfolding ids total tab first anyBelow _⨾_ stopWhen stopIf stopAt earlier magic count rowStart rowAt row tableEnd badRow outside headStop tableStop unrefused badId meanSame mix rowsStop bundleStop check compatibleAt chosen pickStop pick entryStop entryAt imageOf entryOf entriesOf rowBytes table bundle packedEnd packedLength images packed encode roomStop answer over output normal normalLength normaliseStop normalise normalised recordAt rowOf rowsOf badPart recordsStop writeStop write writtenTo
+unfolding ids total tab first anyBelow _⨾_ stopWhen stopIf stopAt earlier magic count rowStart rowAt row tableEnd badRow outside shareByte sameSpan overlaps overlapStop headStop tableStop unrefused badId meanSame mix rowsStop bundleStop check compatibleAt chosen pickStop pick entryStop entryAt imageOf entryOf entriesOf rowBytes table bundle packedEnd packedLength images packed encode roomStop answer over output normal normalLength normaliseStop normalise normalised recordAt rowOf rowsOf badPart recordsStop writeStop write writtenTo
 bundles = tt

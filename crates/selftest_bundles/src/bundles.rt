@@ -24,17 +24,23 @@ const HOST: [u8; 91] = *b"__CLANG_OFFLOAD_BUNDLE__\x01\0\0\0\0\0\0\0\
 const HOST_ONLY: [u8; 86] = *b"__CLANG_OFFLOAD_BUNDLE__\x01\0\0\0\0\0\0\0\
     \x56\0\0\0\0\0\0\0\0\0\0\0\0\0\0\0\x1e\0\0\0\0\0\0\0host-x86_64-unknown-linux-gnu-";
 
-// Two entries in falling order; bytes of no image after the table; images that share a byte.
+// Two entries in falling order; bytes of no image after the table; images in falling order.
 const TWO_CARDS: [u8; 158] = *b"__CLANG_OFFLOAD_BUNDLE__\x02\0\0\0\0\0\0\0\
-    \x9a\0\0\0\0\0\0\0\x03\0\0\0\0\0\0\0\x23\0\0\0\0\0\0\0hip-amdgcn-amd-amdhsa-gfx906:xnack-\
-    \x9c\0\0\0\0\0\0\0\x02\0\0\0\0\0\0\0\x23\0\0\0\0\0\0\0hip-amdgcn-amd-amdhsa-gfx906:xnack+\
-    ....abcd";
+    \x9b\0\0\0\0\0\0\0\x03\0\0\0\0\0\0\0\x23\0\0\0\0\0\0\0hip-amdgcn-amd-amdhsa-gfx906:xnack-\
+    \x99\0\0\0\0\0\0\0\x02\0\0\0\0\0\0\0\x23\0\0\0\0\0\0\0hip-amdgcn-amd-amdhsa-gfx906:xnack+\
+    ...abcde";
 
 // Its normal form.
 const TWO_CARDS_NORMAL: [u8; 157] = *b"__CLANG_OFFLOAD_BUNDLE__\x02\0\0\0\0\0\0\0\
     \x98\0\0\0\0\0\0\0\x02\0\0\0\0\0\0\0\x24\0\0\0\0\0\0\0hip-amdgcn-amd-amdhsa--gfx906:xnack+\
     \x9a\0\0\0\0\0\0\0\x03\0\0\0\0\0\0\0\x24\0\0\0\0\0\0\0hip-amdgcn-amd-amdhsa--gfx906:xnack-\
-    cdabc";
+    abcde";
+
+// Two images that share a byte.
+const SHARED_BYTE: [u8; 107] = *b"__CLANG_OFFLOAD_BUNDLE__\x02\0\0\0\0\0\0\0\
+    \x63\0\0\0\0\0\0\0\x04\0\0\0\0\0\0\0\x0a\0\0\0\0\0\0\0host-a-b-c\
+    \x66\0\0\0\0\0\0\0\x04\0\0\0\0\0\0\0\x09\0\0\0\0\0\0\0hip-a-b-c\
+    8 bytes.";
 
 // Two kinds for one target, in falling order.
 const TWO_KINDS: [u8; 145] = *b"__CLANG_OFFLOAD_BUNDLE__\x02\0\0\0\0\0\0\0\
@@ -113,6 +119,126 @@ pub(crate) fn ranges() {
     expect_check(&HOST, 0, 0, 1);
 }
 
+// Images that share no byte, or are the same span.
+pub(crate) fn apart() {
+    // falling, and touching each other
+    expect_check(
+        b"__CLANG_OFFLOAD_BUNDLE__\x03\0\0\0\0\0\0\0\
+        \x8d\0\0\0\0\0\0\0\x02\0\0\0\0\0\0\0\x0a\0\0\0\0\0\0\0host-a-b-c\
+        \x8a\0\0\0\0\0\0\0\x03\0\0\0\0\0\0\0\x09\0\0\0\0\0\0\0hip-a-b-c\
+        \x87\0\0\0\0\0\0\0\x03\0\0\0\0\0\0\0\x0c\0\0\0\0\0\0\0openmp-a-b-c\
+        8 bytes.",
+        0,
+        0,
+        3,
+    );
+    // one between two others
+    expect_check(
+        b"__CLANG_OFFLOAD_BUNDLE__\x03\0\0\0\0\0\0\0\
+        \x87\0\0\0\0\0\0\0\x02\0\0\0\0\0\0\0\x0a\0\0\0\0\0\0\0host-a-b-c\
+        \x8d\0\0\0\0\0\0\0\x02\0\0\0\0\0\0\0\x09\0\0\0\0\0\0\0hip-a-b-c\
+        \x89\0\0\0\0\0\0\0\x04\0\0\0\0\0\0\0\x0c\0\0\0\0\0\0\0openmp-a-b-c\
+        8 bytes.",
+        0,
+        0,
+        3,
+    );
+    // the same span twice
+    expect_check(
+        b"__CLANG_OFFLOAD_BUNDLE__\x03\0\0\0\0\0\0\0\
+        \x87\0\0\0\0\0\0\0\x04\0\0\0\0\0\0\0\x0a\0\0\0\0\0\0\0host-a-b-c\
+        \x8b\0\0\0\0\0\0\0\x04\0\0\0\0\0\0\0\x09\0\0\0\0\0\0\0hip-a-b-c\
+        \x87\0\0\0\0\0\0\0\x04\0\0\0\0\0\0\0\x0c\0\0\0\0\0\0\0openmp-a-b-c\
+        8 bytes.",
+        0,
+        0,
+        3,
+    );
+    // empty images inside another
+    expect_check(
+        b"__CLANG_OFFLOAD_BUNDLE__\x03\0\0\0\0\0\0\0\
+        \x87\0\0\0\0\0\0\0\x08\0\0\0\0\0\0\0\x0a\0\0\0\0\0\0\0host-a-b-c\
+        \x8b\0\0\0\0\0\0\0\0\0\0\0\0\0\0\0\x09\0\0\0\0\0\0\0hip-a-b-c\
+        \x8b\0\0\0\0\0\0\0\0\0\0\0\0\0\0\0\x0c\0\0\0\0\0\0\0openmp-a-b-c\
+        8 bytes.",
+        0,
+        0,
+        3,
+    );
+}
+
+// OVERLAP: one byte of an earlier image, at either end of it.
+pub(crate) fn overlaps() {
+    // the last byte of the first
+    expect_check(
+        b"__CLANG_OFFLOAD_BUNDLE__\x03\0\0\0\0\0\0\0\
+        \x87\0\0\0\0\0\0\0\x02\0\0\0\0\0\0\0\x0a\0\0\0\0\0\0\0host-a-b-c\
+        \x8d\0\0\0\0\0\0\0\x02\0\0\0\0\0\0\0\x09\0\0\0\0\0\0\0hip-a-b-c\
+        \x88\0\0\0\0\0\0\0\x03\0\0\0\0\0\0\0\x0c\0\0\0\0\0\0\0openmp-a-b-c\
+        8 bytes.",
+        21,
+        2,
+        0,
+    );
+    // the first byte of the second
+    expect_check(
+        b"__CLANG_OFFLOAD_BUNDLE__\x03\0\0\0\0\0\0\0\
+        \x87\0\0\0\0\0\0\0\x02\0\0\0\0\0\0\0\x0a\0\0\0\0\0\0\0host-a-b-c\
+        \x8d\0\0\0\0\0\0\0\x02\0\0\0\0\0\0\0\x09\0\0\0\0\0\0\0hip-a-b-c\
+        \x8a\0\0\0\0\0\0\0\x04\0\0\0\0\0\0\0\x0c\0\0\0\0\0\0\0openmp-a-b-c\
+        8 bytes.",
+        21,
+        2,
+        0,
+    );
+}
+
+// OVERLAP: inside and around; RANGE before it and TWICE behind it.
+pub(crate) fn overlaps_in_turn() {
+    // inside
+    expect_check(
+        b"__CLANG_OFFLOAD_BUNDLE__\x02\0\0\0\0\0\0\0\
+        \x63\0\0\0\0\0\0\0\x08\0\0\0\0\0\0\0\x0a\0\0\0\0\0\0\0host-a-b-c\
+        \x65\0\0\0\0\0\0\0\x03\0\0\0\0\0\0\0\x09\0\0\0\0\0\0\0hip-a-b-c\
+        8 bytes.",
+        21,
+        1,
+        0,
+    );
+    // around, and a third that overlaps too
+    expect_check(
+        b"__CLANG_OFFLOAD_BUNDLE__\x03\0\0\0\0\0\0\0\
+        \x89\0\0\0\0\0\0\0\x03\0\0\0\0\0\0\0\x0a\0\0\0\0\0\0\0host-a-b-c\
+        \x87\0\0\0\0\0\0\0\x08\0\0\0\0\0\0\0\x09\0\0\0\0\0\0\0hip-a-b-c\
+        \x88\0\0\0\0\0\0\0\x01\0\0\0\0\0\0\0\x0c\0\0\0\0\0\0\0openmp-a-b-c\
+        8 bytes.",
+        21,
+        1,
+        0,
+    );
+    // a later image is outside
+    expect_check(
+        b"__CLANG_OFFLOAD_BUNDLE__\x03\0\0\0\0\0\0\0\
+        \x87\0\0\0\0\0\0\0\x08\0\0\0\0\0\0\0\x0a\0\0\0\0\0\0\0host-a-b-c\
+        \x89\0\0\0\0\0\0\0\x03\0\0\0\0\0\0\0\x09\0\0\0\0\0\0\0hip-a-b-c\
+        \x88\0\0\0\0\0\0\0\x08\0\0\0\0\0\0\0\x0c\0\0\0\0\0\0\0openmp-a-b-c\
+        8 bytes.",
+        6,
+        2,
+        0,
+    );
+    // an entry that stands twice
+    expect_check(
+        b"__CLANG_OFFLOAD_BUNDLE__\x02\0\0\0\0\0\0\0\
+        \x62\0\0\0\0\0\0\0\x04\0\0\0\0\0\0\0\x09\0\0\0\0\0\0\0hip-a-b-c\
+        \x65\0\0\0\0\0\0\0\x04\0\0\0\0\0\0\0\x09\0\0\0\0\0\0\0hip-a-b-c\
+        8 bytes.",
+        21,
+        1,
+        0,
+    );
+}
+
 // TWICE and MIXED.
 pub(crate) fn meanings() {
     // "The two `gfx906` spellings of the fourth piece together: TWICE."
@@ -187,7 +313,7 @@ pub(crate) fn picks() {
         0,
         0,
         1,
-        156,
+        153,
         2,
     );
     expect_pick(
@@ -209,7 +335,7 @@ pub(crate) fn more_picks() {
         0,
         0,
         0,
-        154,
+        155,
         3,
     );
     expect_pick(&HOST_ONLY, b"host-x86_64-unknown-linux-gnu", 0, 0, 0, 86, 0);
@@ -218,6 +344,7 @@ pub(crate) fn more_picks() {
 // A refusal of the check, and QUERY.
 pub(crate) fn not_asked() {
     expect_pick(b"", b"", 2, 0, 0, 0, 0);
+    expect_pick(&SHARED_BYTE, b"host-a-b-c", 21, 1, 0, 0, 0);
     expect_pick(&HOST, b"", 9, 0, 0, 0, 0);
     expect_pick(&HOST, b"hip-a-b-c-d-:xnack+", 9, 0, 0, 0, 0);
 }
@@ -245,7 +372,7 @@ pub(crate) fn kinds_picked() {
         0,
         0,
         0,
-        154,
+        155,
         3,
     );
     expect_pick(&TWO_KINDS, b"hip-amdgcn-amd-amdhsa-gfx906", 0, 0, 1, 143, 2);
@@ -264,17 +391,18 @@ fn expect_entry(
     bundle: &[u8],
     index: usize,
     number: usize,
+    place: usize,
     position: u64,
     size: u64,
     id_position: usize,
     id_length: usize,
 )
-    requires { ⌜ entryAt idRules (now bundle) index ≡ record { number = number; place = 0; position = position; size = size; «id_position» = «id_position»; «id_length» = «id_length» } ⌝ }
+    requires { ⌜ entryAt idRules (now bundle) index ≡ record { number = number; place = place; position = position; size = size; «id_position» = «id_position»; «id_length» = «id_length» } ⌝ }
 {
     let r = bundle_reader::entry(bundle, index);
     check::expect(
         (r.number == number)
-            & (r.place == 0)
+            & (r.place == place)
             & (r.position == position)
             & (r.size == size)
             & (r.id_position == id_position)
@@ -284,15 +412,16 @@ fn expect_entry(
 
 // Entries by their index; past the last, NONE.
 pub(crate) fn entries() {
-    expect_entry(&TWO_CARDS, 1, 0, 156, 2, 115, 35);
-    expect_entry(&TWO_CARDS, 2, 10, 0, 0, 0, 0);
-    expect_entry(&HOST_SPELLED, 18446744073709551615, 10, 0, 0, 0, 0);
+    expect_entry(&TWO_CARDS, 1, 0, 0, 153, 2, 115, 35);
+    expect_entry(&TWO_CARDS, 2, 10, 0, 0, 0, 0, 0);
+    expect_entry(&HOST_SPELLED, 18446744073709551615, 10, 0, 0, 0, 0, 0);
 }
 
 // Refusals of the check.
 pub(crate) fn no_entries() {
-    expect_entry(b"", 0, 2, 0, 0, 0, 0);
-    expect_entry(b"__CLANG_OFFLOAD_BUNDLE__", 0, 3, 0, 0, 0, 0);
+    expect_entry(&SHARED_BYTE, 0, 21, 1, 0, 0, 0, 0);
+    expect_entry(b"", 0, 2, 0, 0, 0, 0, 0);
+    expect_entry(b"__CLANG_OFFLOAD_BUNDLE__", 0, 3, 0, 0, 0, 0, 0);
 }
 
 // What normalising into `out` returns, and what it leaves there.
@@ -317,6 +446,7 @@ pub(crate) fn no_entries_normal() {
     expect_normalise(&NO_ENTRIES, &mut [b'.'; 32], 0, 0, 32, &NO_ENTRIES);
     // refused by the check
     expect_normalise(b"", &mut [b'.'; 1], 2, 0, 0, b".");
+    expect_normalise(&SHARED_BYTE, &mut [b'.'; 1], 21, 1, 0, b".");
 }
 
 // Room that is just enough, and ROOM with one byte less.
@@ -344,7 +474,7 @@ pub(crate) fn cards_normal() {
         b"__CLANG_OFFLOAD_BUNDLE__\x02\0\0\0\0\0\0\0\
         \x98\0\0\0\0\0\0\0\x02\0\0\0\0\0\0\0\x24\0\0\0\0\0\0\0hip-amdgcn-amd-amdhsa--gfx906:xnack+\
         \x9a\0\0\0\0\0\0\0\x03\0\0\0\0\0\0\0\x24\0\0\0\0\0\0\0hip-amdgcn-amd-amdhsa--gfx906:xnack-\
-        cdabc.",
+        abcde.",
     );
 }
 

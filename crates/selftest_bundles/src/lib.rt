@@ -8,6 +8,9 @@ pub fn run() {
     bundles::heads();
     bundles::tables();
     bundles::ranges();
+    bundles::apart();
+    bundles::overlaps();
+    bundles::overlaps_in_turn();
     bundles::meanings();
     bundles::kinds();
     bundles::picks();

@@ -7,7 +7,7 @@ use borrow.Author.Tests.{lt-ltb, le-ltb}
 use Rattle.wire.specs.First.{first, anyBelow}
 use Rattle.wire.specs.Stop.{Stop, go, stop, _⨾_, stopWhen, stopIf, stopAt, earlier}
 use Rattle.wire.proofs.Bools.{byBool}
-use Rattle.wire.proofs.FirstLaws.{first-same, any-same, any-none, none-any}
+use Rattle.wire.proofs.FirstLaws.{first-same, any-same, any-none, none-any, any-some}
 
 pub ⨾-go : (b : Stop) → go ⨾ b ≡ b
 unfolding _⨾_
@@ -91,3 +91,7 @@ earlier-none related f i h = any-none i (λ j. related (f j) (f i)) h
 pub none-earlier : {A : Type 0} (related : A → A → Bool) (f : ℕ → A) (i : ℕ) → earlier related f i ≡ false → (j : ℕ) → j < i → related (f j) (f i) ≡ false
 unfolding earlier
 none-earlier related f i e j h = none-any i (λ k. related (f k) (f i)) e j h
+
+pub earlier-some : {A : Type 0} (related : A → A → Bool) (f : ℕ → A) (i j : ℕ) → j < i → related (f j) (f i) ≡ true → earlier related f i ≡ true
+unfolding earlier
+earlier-some related f i j h e = any-some i (λ k. related (f k) (f i)) j h e

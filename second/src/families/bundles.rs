@@ -8,10 +8,10 @@ use crate::guard::Inputs;
 use crate::model::bundle::{check_of, entries, entry_at_of, normalise_of, pick_of, Checked, Entries, Located, Picked};
 use crate::samples;
 
-const CHECK: (&str, &[u64]) = ("check", &[0, 1, 2, 3, 4, 5, 6, 7, 8]);
-const PICK: (&str, &[u64]) = ("pick", &[0, 1, 2, 3, 4, 5, 6, 7, 8, 9, 10]);
-const ENTRY: (&str, &[u64]) = ("entry", &[0, 1, 2, 3, 4, 5, 6, 7, 8, 10]);
-const NORMALISE: (&str, &[u64]) = ("normalise", &[0, 1, 2, 3, 4, 5, 6, 7, 8, 11, 12]);
+const CHECK: (&str, &[u64]) = ("check", &[0, 1, 2, 3, 4, 5, 6, 21, 7, 8]);
+const PICK: (&str, &[u64]) = ("pick", &[0, 1, 2, 3, 4, 5, 6, 21, 7, 8, 9, 10]);
+const ENTRY: (&str, &[u64]) = ("entry", &[0, 1, 2, 3, 4, 5, 6, 21, 7, 8, 10]);
+const NORMALISE: (&str, &[u64]) = ("normalise", &[0, 1, 2, 3, 4, 5, 6, 21, 7, 8, 11, 12]);
 
 pub struct Bundles {
     calls: BundleCalls,
@@ -120,16 +120,19 @@ impl Family for Bundles {
     /// The examples of RULES B, and each real bundle with each device name, and with each index up to the count.
     fn run_fixed(&mut self) -> Result<u64, Difference> {
         let mut cases = bundle_cases();
+        let case = |bundle: &[u8], device: &str, index: usize| Case {
+            bundle: bundle.to_vec(),
+            zeros: 0,
+            device: device.as_bytes().to_vec(),
+            index: index as u64,
+            room: Room::Exact,
+        };
         for sample in samples::BUNDLES {
-            let case = |device: &str, index: usize| Case {
-                bundle: sample.bytes.to_vec(),
-                zeros: 0,
-                device: device.as_bytes().to_vec(),
-                index: index as u64,
-                room: Room::Exact,
-            };
-            cases.extend(samples::DEVICES.iter().map(|device| case(device, 0)));
-            cases.extend((1..=sample.entries.len()).map(|index| case(samples::DEVICES[0], index)));
+            cases.extend(samples::DEVICES.iter().map(|device| case(sample.bytes, device, 0)));
+            cases.extend((1..=sample.entries.len()).map(|index| case(sample.bytes, samples::DEVICES[0], index)));
+        }
+        for sample in samples::REFUSED {
+            cases.extend(samples::DEVICES.iter().map(|device| case(sample.bytes, device, 0)));
         }
         let count = cases.len() as u64;
         for case in cases {

@@ -7,7 +7,7 @@ use crate::model::binary_writer::Content;
 use crate::model::bundle::{check, composition, entries, entry_at, normalise, packed, pick, Checked, Located, Picked};
 use crate::model::bundle_writer::Record;
 use crate::model::id::{canonical, compared_kind, compatible, meaning, same_target, Meaning};
-use crate::model::{integer, part, Refusal, COUNT, LENGTH, MIXED, NONE, RANGE, TWICE};
+use crate::model::{integer, part, refuse_at, Refusal, COUNT, LENGTH, MIXED, NONE, OVERLAP, RANGE, TWICE};
 
 fn run_generated(family: &mut dyn Family, cases: u64) -> Result<(), Difference> {
     for case in 0..cases {
@@ -42,6 +42,17 @@ fn the_binary_writer_meets_every_line() {
     meets_every_line(writers::Writers::<binary_contents::Case>::new(MODEL_BINARY_WRITER));
 }
 
+#[test]
+fn half_of_the_generated_bundles_are_accepted_and_a_tenth_overlap() {
+    let mut family = bundles::Bundles::new(MODEL);
+    run_generated(&mut family, 4000).unwrap();
+    for tally in &family.report().tallies {
+        let [accepted, overlaps] = [OK, OVERLAP].map(|number| tally.seen[number as usize]);
+        let least = if tally.call == "check" { 1800 } else { 800 };
+        assert!(accepted > least && (300..600).contains(&overlaps), "{}: {accepted}, {overlaps}", tally.call);
+    }
+}
+
 /// The call in which the first difference shows; generated cases alone must find it.
 fn found(mut family: impl Family) -> &'static str {
     run_generated(&mut family, 8000).expect_err("a slip that was not found").call
@@ -61,6 +72,10 @@ fn rows(bundle: &[u8]) -> Vec<(u64, u64, &[u8])> {
         at = end;
     }
     rows
+}
+
+fn ids(bundle: &[u8]) -> impl Iterator<Item = &[u8]> {
+    rows(bundle).into_iter().map(|row| row.2)
 }
 
 #[test]
@@ -144,6 +159,7 @@ fn an_unstated_feature_taken_as_a_match_is_found() {
 /// What a library takes a kind for.
 type Kinds = fn(&[u8]) -> &[u8];
 
+const AS_THEY_ARE: Kinds = |kind| kind;
 const AS_SPELLED: Kinds = |kind| if kind == b"hipv4" { b"a kind of its own" } else { kind };
 const ALL_ALIKE: Kinds = |_| b"hip";
 
@@ -163,7 +179,12 @@ fn check_taken(kinds: Kinds, bundle: &[u8]) -> Checked {
     if ![OK, TWICE, MIXED].contains(&checked.number) {
         return checked;
     }
-    match composition_taken(kinds, rows(bundle).iter().map(|row| row.2)) {
+    answer(composition_taken(kinds, ids(bundle)), bundle)
+}
+
+/// What a check answers on a bundle with this refusal, or none.
+fn answer(result: Result<(), Refusal>, bundle: &[u8]) -> Checked {
+    match result {
         Ok(()) => Checked { number: OK, place: 0, count: integer(bundle, 24, 8) },
         Err(Refusal { number, place }) => Checked { number, place, count: 0 },
     }
@@ -234,6 +255,170 @@ fn kinds_taken_all_alike_are_found() {
     assert_eq!(writer, "bundle writer");
 }
 
+/// An image's first byte, and the byte after its last.
+type Image = [u64; 2];
+
+fn images(bundle: &[u8]) -> Vec<Image> {
+    rows(bundle).iter().map(|(offset, size, _)| [*offset, offset.saturating_add(*size)]).collect()
+}
+
+fn share_a_byte(one: Image, other: Image) -> bool {
+    one[0].max(other[0]) < one[1].min(other[1])
+}
+
+fn overlap(one: Image, other: Image) -> bool {
+    share_a_byte(one, other) && one != other
+}
+
+fn overlaps(earlier: &[Image], image: Image) -> bool {
+    earlier.iter().any(|other| overlap(*other, image))
+}
+
+fn inside(one: Image, other: Image) -> bool {
+    other[0] <= one[0] && one[1] <= other[1]
+}
+
+fn empty_inside(one: Image, other: Image) -> bool {
+    one[0] == one[1] && other[0] < one[0] && one[1] < other[1]
+}
+
+fn directly_before(one: Image, other: Image) -> bool {
+    one[0] < one[1] && one[1] == other[0] && other[0] < other[1]
+}
+
+/// From the first byte of all to the last.
+fn around(images: &[Image]) -> Image {
+    let full = images.iter().filter(|image| image[0] < image[1]);
+    full.fold([u64::MAX, 0], |all, image| [all[0].min(image[0]), all[1].max(image[1])])
+}
+
+/// The check of a library that has its own way to see whether an image overlaps one of those before it.
+fn check_images(overlaps: impl Fn(&[Image], Image) -> bool, bundle: &[u8]) -> Checked {
+    let checked = check(bundle);
+    if ![OK, OVERLAP, TWICE, MIXED].contains(&checked.number) {
+        return checked;
+    }
+    let images = images(bundle);
+    let refused = refuse_at(images.len(), OVERLAP, |i| overlaps(&images[..i], images[i]));
+    answer(refused.and_then(|()| composition_taken(AS_THEY_ARE, ids(bundle))), bundle)
+}
+
+/// The same, by its own way to compare an earlier image with a later one.
+fn check_pairs(overlap: fn(Image, Image) -> bool, bundle: &[u8]) -> Checked {
+    check_images(|earlier, image| earlier.iter().any(|other| overlap(*other, image)), bundle)
+}
+
+/// A check that is not the rules.
+type Slip = fn(&[u8]) -> Checked;
+
+const IMAGE_SLIPS: &[(&str, Slip)] = &[
+    ("no overlap is seen", |bundle| check_pairs(|_, _| false, bundle)),
+    ("the same span is one", |bundle| check_pairs(share_a_byte, bundle)),
+    ("directly after is one", |bundle| check_pairs(|a, b| overlap(a, b) || directly_before(a, b), bundle)),
+    ("directly before is one", |bundle| check_pairs(|a, b| overlap(a, b) || directly_before(b, a), bundle)),
+    ("empty inside is one", |bundle| check_pairs(|a, b| overlap(a, b) || empty_inside(b, a), bundle)),
+    ("around an empty one is one", |bundle| check_pairs(|a, b| overlap(a, b) || empty_inside(a, b), bundle)),
+    ("inside is none", |bundle| check_pairs(|a, b| overlap(a, b) && !inside(b, a), bundle)),
+    ("around is none", |bundle| check_pairs(|a, b| overlap(a, b) && !inside(a, b), bundle)),
+    ("same start is none", |bundle| check_pairs(|a, b| overlap(a, b) && a[0] != b[0], bundle)),
+    ("same end is none", |bundle| check_pairs(|a, b| overlap(a, b) && a[1] != b[1], bundle)),
+    ("one byte from the end is none", |bundle| check_pairs(|a, b| overlap(a, b) && b[0] + 1 != a[1], bundle)),
+    ("one byte from the start is none", |bundle| check_pairs(|a, b| overlap(a, b) && a[0] + 1 != b[1], bundle)),
+    ("only with the one before", |bundle| {
+        check_images(|earlier, image| overlaps(&earlier[earlier.len().saturating_sub(1)..], image), bundle)
+    }),
+    ("only with the first", |bundle| {
+        check_images(|earlier, image| overlaps(&earlier[..earlier.len().min(1)], image), bundle)
+    }),
+    ("not with the first", |bundle| {
+        check_images(|earlier, image| overlaps(&earlier[earlier.len().min(1)..], image), bundle)
+    }),
+    ("any between others is one", |bundle| {
+        check_images(|earlier, image| share_a_byte(around(earlier), image) && !earlier.contains(&image), bundle)
+    }),
+    ("none between others is one", |bundle| {
+        check_images(|earlier, image| overlaps(earlier, image) && !inside(image, around(earlier)), bundle)
+    }),
+];
+
+#[test]
+fn slips_of_images_are_found() {
+    for (name, check) in IMAGE_SLIPS {
+        assert_eq!(found_in(BundleCalls { check: *check, ..MODEL }), "check", "{name}");
+    }
+}
+
+/// Slips of the number and of the place, the overlaps being seen.
+const OVERLAP_SLIPS: &[(&str, Slip)] = &[
+    ("the earlier of the two", |bundle| match check(bundle) {
+        Checked { number: OVERLAP, place, .. } => {
+            let images = images(bundle);
+            let earlier = images.iter().position(|image| overlap(*image, images[place as usize]));
+            answer(Err(Refusal { number: OVERLAP, place: earlier.unwrap() as u64 }), bundle)
+        }
+        checked => checked,
+    }),
+    ("the first in the order of bytes", |bundle| match check(bundle) {
+        Checked { number: OVERLAP, .. } => {
+            let mut images: Vec<(Image, usize)> = images(bundle).into_iter().zip(0..).collect();
+            images.sort_unstable();
+            let two = images.windows(2).find(|two| overlap(two[0].0, two[1].0)).map_or(0, |two| two[0].1.max(two[1].1));
+            answer(Err(Refusal { number: OVERLAP, place: two as u64 }), bundle)
+        }
+        checked => checked,
+    }),
+    ("before 6", |bundle| match check(bundle) {
+        checked if checked.number == RANGE => {
+            let images = images(bundle);
+            let refused = refuse_at(images.len(), OVERLAP, |i| overlaps(&images[..i], images[i]));
+            refused.map_or_else(|refusal| answer(Err(refusal), bundle), |()| checked)
+        }
+        checked => checked,
+    }),
+    ("after 7", |bundle| check_after(TWICE, bundle)),
+    ("after 8", |bundle| check_after(MIXED, bundle)),
+];
+
+/// The check of a library that asks for overlaps after this number.
+fn check_after(number: u64, bundle: &[u8]) -> Checked {
+    let checked = check(bundle);
+    if checked.number != OVERLAP {
+        return checked;
+    }
+    match composition_taken(AS_THEY_ARE, ids(bundle)) {
+        Err(refusal) if refusal.number == number => answer(Err(refusal), bundle),
+        _ => checked,
+    }
+}
+
+#[test]
+fn slips_of_an_overlap_are_found() {
+    for (name, check) in OVERLAP_SLIPS {
+        assert_eq!(found_in(BundleCalls { check: *check, ..MODEL }), "check", "{name}");
+    }
+}
+
+#[test]
+fn calls_that_leave_out_overlaps_are_found() {
+    let pick = |bundle: &[u8], device: &[u8]| match pick(bundle, device) {
+        picked if picked.number == OVERLAP => Picked { number: NONE, ..Picked::default() },
+        picked => picked,
+    };
+    assert_eq!(found_in(BundleCalls { pick, ..MODEL }), "pick");
+    let entry = |bundle: &[u8], index: u64| match entry_at(bundle, index) {
+        located if located.number == OVERLAP => Located { number: NONE, ..Located::default() },
+        located => located,
+    };
+    assert_eq!(found_in(BundleCalls { entry, ..MODEL }), "entry");
+    let room_first = with_normalise(|bundle, out, field| match normalise(bundle, out) {
+        written if written.number == OVERLAP && out.is_empty() => {
+            field.of(Written { number: ROOM, place: 0, length: 0 })
+        }
+        written => field.of(written),
+    });
+    assert_eq!(found_in(room_first), "normalise");
+}
+
 /// A normal form sorted by IDs with some kinds, and written with IDs of others, none longer than as spelled.
 fn normal_form_taken(order: Kinds, written: Kinds, bundle: &[u8], out: &mut [u8], field: Field) -> u64 {
     let lawful = normalise(bundle, &mut out.to_vec());
@@ -254,7 +439,7 @@ fn a_kind_respelled_in_a_normal_form_is_found() {
         with_normalise(|bundle, out, field| normal_form_taken(compared_kind, compared_kind, bundle, out, field));
     assert_eq!(found_in(rewritten), "normalise");
     let order_alone =
-        with_normalise(|bundle, out, field| normal_form_taken(compared_kind, |kind| kind, bundle, out, field));
+        with_normalise(|bundle, out, field| normal_form_taken(compared_kind, AS_THEY_ARE, bundle, out, field));
     assert_eq!(found_in(order_alone), "normalise");
 }
 

@@ -1,6 +1,9 @@
 //! Bundles with a device name, an index and a length for the lent output.
 
+mod overlaps;
+
 use super::ids::{self, IdMaker, Meaning, BROKEN, EDGES};
+use super::images::{self, Span};
 use super::pairs::{self, Pair};
 use super::random::Random;
 use super::{Aim, Room, LIMIT};
@@ -13,6 +16,15 @@ pub enum Offset {
     /// Counted from the table end, so that it stays right when an ID changes.
     AfterTable(u64),
     Exactly(u64),
+}
+
+impl Offset {
+    fn of(self, table_end: u64) -> u64 {
+        match self {
+            Offset::AfterTable(start) => table_end + start,
+            Offset::Exactly(offset) => offset,
+        }
+    }
 }
 
 #[derive(Clone, Debug)]
@@ -52,9 +64,10 @@ pub struct Case {
 }
 
 impl Row {
-    fn new(random: &mut Random, meaning: Meaning, offset: Offset, size: u64) -> Row {
+    /// A row whose image lies there, from the table end on.
+    fn new(random: &mut Random, meaning: Meaning, image: Span) -> Row {
         let id = ids::spelled(random, &meaning);
-        Row { meaning, id_length: id.len() as u64, id, offset, size }
+        Row { meaning, id_length: id.len() as u64, id, offset: Offset::AfterTable(image.start), size: image.size }
     }
 
     fn set_id(&mut self, id: Vec<u8>) {
@@ -66,20 +79,22 @@ impl Row {
         self.offset = Offset::Exactly(offset);
         self.size = size;
     }
+
+    fn set_span(&mut self, span: Span) {
+        self.offset = Offset::AfterTable(span.start);
+        self.size = span.size;
+    }
 }
 
 impl Draft {
     /// A bundle that is accepted, with so many entries.
     pub fn good(random: &mut Random, count: usize) -> Draft {
-        let body_length = if random.one_in(20) { random.between(0, 2000) } else { random.between(0, 80) };
+        let usual = 80.max(6 * count);
+        let body_length = if random.one_in(20) { random.between(0, 2000) } else { random.between(0, usual) };
         let body = random.bytes(body_length);
         let meanings = ids::composed(random, count);
-        let spans = spans(random, count, body_length);
-        let rows: Vec<Row> = meanings
-            .into_iter()
-            .zip(spans)
-            .map(|(meaning, (start, size))| Row::new(random, meaning, Offset::AfterTable(start as u64), size as u64))
-            .collect();
+        let spans = images::accepted(random, count, body_length);
+        let rows = meanings.into_iter().zip(spans).map(|(meaning, span)| Row::new(random, meaning, span)).collect();
         let mut draft = Draft {
             magic: MAGIC_BYTES.to_vec(),
             count: count as u64,
@@ -126,11 +141,7 @@ impl Draft {
         bytes.extend(&self.magic);
         bytes.extend(self.count.to_le_bytes());
         for row in &self.rows {
-            let offset = match row.offset {
-                Offset::AfterTable(start) => table_end + start,
-                Offset::Exactly(offset) => offset,
-            };
-            bytes.extend(offset.to_le_bytes());
+            bytes.extend(row.offset.of(table_end).to_le_bytes());
             bytes.extend(row.size.to_le_bytes());
             bytes.extend(row.id_length.to_le_bytes());
             bytes.extend(&row.id);
@@ -168,9 +179,23 @@ impl Draft {
     }
 
     fn put_meaning(&mut self, random: &mut Random, meaning: Meaning) -> usize {
-        let (start, size) = any_span(random, self.body.len());
-        let row = Row::new(random, meaning, Offset::AfterTable(start as u64), size as u64);
-        self.put_row(random, row)
+        let image = images::anywhere(random, self.body.len());
+        let row = Row::new(random, meaning, image);
+        let at = self.put_row(random, row);
+        self.share_image(at);
+        at
+    }
+
+    /// Images that share a byte with this row's become the same as it, so that it may lie where it does.
+    fn share_image(&mut self, at: usize) {
+        let table_end = self.table_end();
+        let span = |row: &Row| Span { start: row.offset.of(table_end), size: row.size };
+        let Row { offset, size, .. } = self.rows[at];
+        let image = span(&self.rows[at]);
+        for row in self.rows.iter_mut().filter(|row| span(row).shares_a_byte(image)) {
+            row.offset = offset;
+            row.size = size;
+        }
     }
 
     fn put_pair(&mut self, random: &mut Random, pair: [Meaning; 2]) {
@@ -217,36 +242,6 @@ fn some_index(random: &mut Random, count: usize) -> u64 {
 /// How many images of the size limit make an output far above it: above 2^31, above 2^32, and the most there can be.
 pub const FAR_ABOVE: &[usize] = &[3, 5, 64];
 
-/// Starts and sizes of images in a body: packed, in any order, with gaps, shared, overlapping, empty.
-fn spans(random: &mut Random, count: usize, length: usize) -> Vec<(usize, usize)> {
-    match random.below(4) {
-        0 => packed_spans(random, count, length, 0),
-        1 => packed_spans(random, count, length, 5),
-        2 => vec![any_span(random, length); count],
-        _ => (0..count).map(|_| any_span(random, length)).collect(),
-    }
-}
-
-fn any_span(random: &mut Random, length: usize) -> (usize, usize) {
-    let start = random.between(0, length);
-    let size = if random.one_in(4) { 0 } else { random.between(0, length - start) };
-    (start, size)
-}
-
-/// Images one after the other, with gaps up to a size, then given to the entries in any order.
-fn packed_spans(random: &mut Random, count: usize, length: usize, gap: usize) -> Vec<(usize, usize)> {
-    let mut at = 0;
-    let mut spans = Vec::new();
-    for _ in 0..count {
-        let start = (at + random.between(0, gap)).min(length);
-        let size = random.between(0, 12).min(length - start);
-        spans.push((start, size));
-        at = start + size;
-    }
-    random.shuffle(&mut spans);
-    spans
-}
-
 /// A real bundle, sometimes with damage in its table.
 pub fn sample_case(random: &mut Random) -> Case {
     let sample = random.choose(samples::BUNDLES);
@@ -285,6 +280,7 @@ pub fn aims() -> Vec<Aim<Draft>> {
     aims.extend(table_aims());
     aims.extend(id_aims());
     aims.extend(range_aims());
+    aims.extend(overlaps::aims());
     aims.extend(composition_aims());
     aims.extend(device_aims());
     aims.extend(index_aims());
@@ -503,6 +499,9 @@ fn image(number: u64, name: &str, place: fn(u64, u64, &mut Random) -> (u64, u64)
         let at = draft.some_row(random);
         let (offset, size) = place(draft.table_end(), draft.length(), random);
         draft.rows[at].set_image(offset, size);
+        if number == OK {
+            draft.share_image(at);
+        }
     })
 }
 
@@ -673,15 +672,18 @@ fn normal_form_aims() -> Vec<BundleAim> {
     ]
 }
 
-/// Two entries that share bytes, so that the normal form has this length in a container half as long.
+/// Two entries that share an image, and one with an image of its own, so that the normal form has this length in a container half as long.
 fn normal_length(draft: &mut Draft, random: &mut Random, length: usize) {
     *draft = Draft::good(random, 0);
-    draft.put_id(random, b"hip-a-b-c-d-".to_vec());
-    draft.put_id(random, b"hip-a-b-c-e-".to_vec());
-    let images = length as u64 - draft.table_end();
-    let first = random.between((images / 2) as usize, (images / 2) as usize + 1000) as u64;
-    fill_to(draft, (draft.table_end() + first) as usize);
+    for id in [b"hip-a-b-c-d-", b"hip-a-b-c-e-", b"hip-a-b-c-f-"] {
+        draft.put_id(random, id.to_vec());
+    }
     let start = draft.table_end();
-    draft.rows[0].set_image(start, first);
-    draft.rows[1].set_image(start, images - first);
+    let images = length as u64 - start;
+    let own = 2 * random.between(0, 500) as u64 + images % 2;
+    let shared = (images - own) / 2;
+    fill_to(draft, (start + shared + own) as usize);
+    draft.rows[0].set_image(start, shared);
+    draft.rows[1].set_image(start + shared, own);
+    draft.rows[2].set_image(start, shared);
 }

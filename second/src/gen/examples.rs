@@ -1,4 +1,4 @@
-//! The examples of RULES B, B.1 to B.13 and B.16, as cases. `model/examples.rs` says what comes of them.
+//! The examples of RULES B, B.1 to B.13, B.16 and B.17, as cases. `model/examples.rs` says what comes of them.
 
 use super::{binaries, bundles, Room};
 use crate::model::binary_writer::{write_binary, Content, PairParts};
@@ -17,10 +17,36 @@ pub fn with_field(mut bundle: Vec<u8>, at: usize, value: u64) -> Vec<u8> {
 }
 
 /// Environments e0, e1 .. make as many meanings as are asked for.
+fn ids(count: usize) -> Vec<String> {
+    (0..count).map(|k| format!("hip-a-b-c-e{k}")).collect()
+}
+
+/// So many entries with an image of one byte each.
 pub fn many(count: usize) -> Vec<u8> {
-    let ids: Vec<String> = (0..count).map(|k| format!("hip-a-b-c-e{k}")).collect();
+    let ids = ids(count);
     let entries: Vec<(&str, &[u8])> = ids.iter().map(|id| (id.as_str(), &b"x"[..])).collect();
     bundle(&entries)
+}
+
+/// What follows the table of `with_images`.
+pub const BODY: &[u8; 40] = b"0123456789abcdefghijklmnopqrstuvwxyzABCD";
+
+/// A bundle with these IDs as spelled, each with the start of its image, counted from the table end, and the size.
+pub fn with_images(entries: &[(&str, u64, u64)]) -> Vec<u8> {
+    let mut bytes = bundle(&entries.iter().map(|(id, ..)| (*id, &b""[..])).collect::<Vec<_>>());
+    let (mut row, table_end) = (32, bytes.len() as u64);
+    for (id, start, size) in entries {
+        bytes = with_field(with_field(bytes, row, table_end + start), row + 8, *size);
+        row += 24 + id.len();
+    }
+    [&bytes[..], BODY].concat()
+}
+
+/// As many entries as there are images.
+pub fn lying(images: &[(u64, u64)]) -> Vec<u8> {
+    let ids = ids(images.len());
+    let entries: Vec<_> = ids.iter().zip(images).map(|(id, (start, size))| (id.as_str(), *start, *size)).collect();
+    with_images(&entries)
 }
 
 /// One entry whose image has this size and begins where the bundle ends.
@@ -79,6 +105,16 @@ pub fn bundle_cases() -> Vec<bundles::Case> {
         case(bundle(&[(XNACK_ON_V4, b"on")]), XNACK_OFF),
         case(bundle(&[(PLAIN_OPENMP, b"openmp"), (PLAIN_V4, b"hip")]), PLAIN),
         case(bundle(&[(PLAIN_OPENMP, b"openmp")]), PLAIN_V4),
+        case(lying(&[(0, 5), (0, 5)]), "hip-a-b-c-e1"),
+        case(lying(&[(0, 5), (4, 5)]), "hip-a-b-c-e1"),
+        case(lying(&[(0, 5), (1, 3)]), "hip-a-b-c-e1"),
+        case(lying(&[(1, 3), (0, 5)]), "hip-a-b-c-e1"),
+        case(lying(&[(0, 5), (5, 5)]), "hip-a-b-c-e1"),
+        case(lying(&[(5, 5), (0, 5)]), "hip-a-b-c-e1"),
+        case(lying(&[(0, 5), (2, 0)]), "hip-a-b-c-e1"),
+        case(lying(&[(2, 0), (0, 5)]), "hip-a-b-c-e1"),
+        case(lying(&[(0, 5), (4, 5), (40, 1)]), "hip-a-b-c-e1"),
+        case(with_images(&[(PLAIN, 0, 5), (PLAIN, 0, 5), (HOST, 4, 5)]), PLAIN),
     ]
 }
 

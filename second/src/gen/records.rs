@@ -2,6 +2,7 @@
 
 use super::bundles::{some_count, FAR_ABOVE};
 use super::ids::{self, IdMaker, Meaning, BROKEN, EDGES};
+use super::images::{self, Span};
 use super::pairs::{self, Pair};
 use super::random::Random;
 use super::{Aim, Room, LIMIT};
@@ -194,6 +195,17 @@ fn image_part_aims() -> Vec<WriterAim> {
             (length.wrapping_neg() + random.below(length as usize) as u64, length)
         }),
         image_part(RANGE, "image start with one high bit more", |_, random| (1 << random.between(32, 63), 0)),
+        write(OK, "images that overlap", |case, random| {
+            let count = random.between(2, 6);
+            with_count(case, random, count);
+            let spans = images::overlapping(random);
+            case.images = random.bytes(images::end_of(&spans));
+            for record in &mut case.records {
+                let Span { start, size } = *random.choose(&spans);
+                record.image_start = start;
+                record.image_length = size;
+            }
+        }),
     ]
 }
 

@@ -53,10 +53,11 @@ pub struct Entry<'a> {
     pub image: &'a [u8],
 }
 
-/// What is read of a bundle, which every call starts from: its entries, or the refusal 1 to 8.
+/// What is read of a bundle, which every call starts from: its entries, or a refusal of the check.
 pub type Entries<'a> = Result<Vec<Entry<'a>>, Refusal>;
 
-/// 1 to 8, in this order, "each of 4 to 8 .. tried over all entries before the next".
+/// 1 to 8, in this order, "each of 4 to 8 .. tried over all entries before the next". OVERLAP is "checked after 6 over all entries and
+/// before 7", and "joins every list that says 1 to 8".
 pub fn entries(bundle: &[u8]) -> Entries<'_> {
     let length = bundle.len() as u128;
     refuse_if(length > SIZE_LIMIT, LENGTH)?;
@@ -67,6 +68,7 @@ pub fn entries(bundle: &[u8]) -> Entries<'_> {
     refuse_at(rows.len(), ID, |i| meanings[i].is_none())?;
     let meanings: Vec<Meaning> = meanings.into_iter().flatten().collect();
     refuse_at(rows.len(), RANGE, |i| out_of_range(&rows[i], table_end, length))?;
+    refuse_at(rows.len(), OVERLAP, |i| rows[..i].iter().any(|earlier| overlap(earlier, &rows[i])))?;
     composition(&meanings)?;
     Ok(meanings.into_iter().zip(&rows).map(|(meaning, row)| entry(bundle, meaning, row)).collect())
 }
@@ -100,6 +102,13 @@ fn row(bundle: &[u8], at: usize) -> Option<Row<'_>> {
 /// "image offset before table end, or offset + size above the length".
 fn out_of_range(row: &Row, table_end: u128, length: u128) -> bool {
     (row.offset as u128) < table_end || row.offset as u128 + row.size as u128 > length
+}
+
+/// "two images of size above 0 are either the same span or share no byte": these two are neither. An image of size 0 has no byte to share.
+fn overlap(one: &Row, other: &Row) -> bool {
+    let end = |row: &Row| row.offset as u128 + row.size as u128;
+    let share_a_byte = (one.offset.max(other.offset) as u128) < end(one).min(end(other));
+    share_a_byte && (one.offset, one.size) != (other.offset, other.size)
 }
 
 /// TWICE: "an earlier entry has the same meaning". MIXED: "an earlier entry of equal kind, triple and processor states other feature
@@ -152,7 +161,7 @@ fn picked_entry<'a>(entries: &'a Entries, device: &[u8]) -> Result<(usize, &'a E
     found.pop().ok_or(Refusal { number: NONE, place: 0 })
 }
 
-/// 1 to 8 as the check, then 10: the index is not below the count.
+/// What the check tries, then 10: the index is not below the count.
 pub fn entry_at(bundle: &[u8], index: u64) -> Located {
     entry_at_of(&entries(bundle), index)
 }

@@ -1,4 +1,4 @@
-//! The examples of RULES B, the mistakes of RULES C, `hip` beside `hipv4`, and entries by index.
+//! The examples of RULES B, the mistakes of RULES C, `hip` beside `hipv4`, entries by index, and images that overlap.
 
 use super::binaries::{read_all, Binary, Pair};
 use super::binary_writer::{write_binary, Content};
@@ -187,6 +187,111 @@ fn entries_by_index() {
     assert_eq!(entry_at(&mixed, 2), Located { number: MIXED, place: 1, ..Located::default() });
 }
 
+fn check_lying(images: &[(u64, u64)]) -> Checked {
+    check(&lying(images))
+}
+
+#[test]
+fn images_that_may_stand_together() {
+    for images in [
+        // The same span, once more after others, and of one byte.
+        &[(0, 5), (0, 5)][..],
+        &[(0, 5), (7, 2), (0, 5), (7, 2)],
+        &[(39, 1), (39, 1)],
+        // Touching on either side, and on both.
+        &[(0, 5), (5, 5)],
+        &[(5, 5), (0, 5)],
+        &[(0, 5), (10, 5), (5, 5)],
+        // Empty: inside, at either end, where another one is.
+        &[(0, 5), (2, 0)],
+        &[(2, 0), (0, 5)],
+        &[(0, 5), (0, 0), (5, 0)],
+        &[(3, 0), (3, 0), (0, 5), (3, 0)],
+        // Rising, falling, and in between.
+        &[(0, 9), (10, 9), (20, 9), (30, 9)],
+        &[(30, 9), (20, 9), (10, 9), (0, 9)],
+        &[(0, 9), (30, 9), (10, 9), (20, 9)],
+    ] {
+        assert_eq!(check_lying(images), accepted(images.len() as u64), "{images:?}");
+    }
+}
+
+#[test]
+fn overlap_of_two() {
+    for (one, other) in [
+        ((0, 5), (4, 5)),   // one byte in common
+        ((0, 40), (39, 1)), // the last byte of the bundle
+        ((3, 5), (3, 4)),   // the same start
+        ((3, 5), (4, 4)),   // the same end
+        ((0, 5), (1, 3)),   // inside
+        ((0, 5), (2, 1)),   // one byte, inside
+        ((0, 9), (4, 9)),   // across
+    ] {
+        for images in [[one, other], [other, one]] {
+            assert_eq!(check_lying(&images), refusal(OVERLAP, 1), "{images:?}");
+        }
+    }
+}
+
+#[test]
+fn place_of_an_overlap() {
+    // A later pair alone, with the first of many, and with others between.
+    assert_eq!(check_lying(&[(0, 5), (5, 5), (20, 5), (24, 5)]), refusal(OVERLAP, 3));
+    assert_eq!(check_lying(&[(0, 5), (5, 5), (20, 5), (4, 1)]), refusal(OVERLAP, 3));
+    assert_eq!(check_lying(&[(0, 5), (10, 5), (20, 5), (14, 2), (30, 5)]), refusal(OVERLAP, 3));
+    // Below and above all of the others, and between them.
+    assert_eq!(check_lying(&[(20, 5), (10, 5), (9, 2)]), refusal(OVERLAP, 2));
+    assert_eq!(check_lying(&[(20, 5), (10, 5), (24, 2)]), refusal(OVERLAP, 2));
+    assert_eq!(check_lying(&[(0, 5), (30, 5), (10, 5), (12, 5)]), refusal(OVERLAP, 3));
+    // The later of the two, and the lowest of such.
+    assert_eq!(check_lying(&[(0, 9), (3, 1), (5, 1)]), refusal(OVERLAP, 1));
+    assert_eq!(check_lying(&[(3, 1), (5, 1), (0, 9)]), refusal(OVERLAP, 2));
+    assert_eq!(check_lying(&[(20, 5), (24, 5), (0, 5), (4, 5)]), refusal(OVERLAP, 1));
+    assert_eq!(check_lying(&[(0, 5), (20, 5), (24, 5), (4, 5)]), refusal(OVERLAP, 2));
+    // The same span as an earlier one is no excuse for another.
+    assert_eq!(check_lying(&[(0, 5), (0, 5), (4, 5), (4, 5)]), refusal(OVERLAP, 2));
+    // Images of one byte one after the other, and one over the first two.
+    let mut images: Vec<(u64, u64)> = (0..40).map(|start| (start, 1)).collect();
+    assert_eq!(check_lying(&images), accepted(40));
+    images.push((0, 2));
+    assert_eq!(check_lying(&images), refusal(OVERLAP, 40));
+}
+
+#[test]
+fn overlap_among_the_other_numbers() {
+    // 5 and 6 before 21.
+    let broken = with_images(&[(PLAIN, 0, 5), (HOST, 4, 5), (NO_PROCESSOR, 0, 0)]);
+    assert_eq!(check(&broken), refusal(ID, 2));
+    assert_eq!(check_lying(&[(0, 5), (4, 5), (40, 1)]), refusal(RANGE, 2));
+    assert_eq!(check_lying(&[(0, 5), (4, 37)]), refusal(RANGE, 1));
+    // 21 before 7 and 8, also where these would have a lower place.
+    let twice = with_images(&[(PLAIN, 0, 5), (PLAIN, 0, 5), (HOST, 4, 5)]);
+    assert_eq!(check(&twice), refusal(OVERLAP, 2));
+    let mixed = with_images(&[(PLAIN, 0, 5), (XNACK_ON, 5, 5), (HOST, 4, 5)]);
+    assert_eq!(check(&mixed), refusal(OVERLAP, 2));
+    assert_eq!(check(&with_images(&[(PLAIN, 0, 5), (PLAIN_V4, 4, 5)])), refusal(OVERLAP, 1));
+    // 21 before 9, 10 and 12, and nothing is written.
+    let overlap = with_images(&[(PLAIN, 0, 5), (HOST, 4, 5)]);
+    for device in [PLAIN, PLAIN_OPENMP, NO_PROCESSOR] {
+        assert_eq!(pick(&overlap, device.as_bytes()), Picked { number: OVERLAP, place: 1, ..Picked::default() });
+    }
+    for index in [0, 1, 2] {
+        assert_eq!(entry_at(&overlap, index), Located { number: OVERLAP, place: 1, ..Located::default() });
+    }
+    for room in [0, 1000] {
+        let mut out = vec![0xA5; room];
+        assert_eq!(normalise(&overlap, &mut out), Written { number: OVERLAP, place: 1, length: 0 });
+        assert!(out.iter().all(|byte| *byte == 0xA5));
+    }
+}
+
+#[test]
+fn a_shared_image_is_written_twice_in_the_normal_form() {
+    let bytes = with_images(&[("openmp-a-b-c--", 4, 3), ("hip-a-b-c--", 4, 3), ("host-a-b-c--", 5, 0)]);
+    let expected = bundle(&[("hip-a-b-c--", b"456"), ("host-a-b-c--", b""), ("openmp-a-b-c--", b"456")]);
+    assert_eq!(normal(&bytes), expected);
+}
+
 #[test]
 fn binary_of_72_bytes() {
     let mut out = [0xA5; 80];
@@ -338,7 +443,7 @@ fn room_for_the_normal_form() {
 }
 
 #[test]
-fn bundle_writer_keeps_the_order() {
+fn bundle_writer_keeps_the_order_and_separates_images() {
     let records = [
         Record { id_start: 9, id_length: 12, image_start: 1, image_length: 2 },
         Record { id_start: 0, id_length: 9, image_start: 0, image_length: 3 },
@@ -349,6 +454,7 @@ fn bundle_writer_keeps_the_order() {
     assert_eq!(written, Written { number: OK, place: 0, length: expected.len() as u64 });
     assert_eq!(out[..expected.len()], expected);
     assert!(out[expected.len()..].iter().all(|byte| *byte == 0xA5));
+    assert_eq!(check(&expected), accepted(2));
 }
 
 #[test]

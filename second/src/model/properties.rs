@@ -6,9 +6,10 @@ use super::bundle::{check, entries, entry_at_of, normalise, pick, pick_of, Check
 use super::bundle_writer::write_bundle;
 use super::id::{canonical, compatible, meaning, mixed, same_meaning};
 use super::*;
-use crate::gen::bundles::{some_count, Draft};
+use crate::gen::bundles::{some_count, Draft, Offset, Row};
 use crate::gen::random::Random;
 use crate::gen::{binary_contents, ids, records};
+use std::collections::BTreeSet;
 
 const CASES: u64 = 3000;
 
@@ -187,11 +188,40 @@ fn the_spelling_of_a_kind_shows_in_the_normal_form_alone() {
 fn what_follows_the_table_changes_no_answer() {
     each_case(|random| {
         let mut draft = some_bundle(random);
+        if random.one_in(2) {
+            draft.scatter_images(random);
+        }
         let one = draft.bytes();
         draft.body = random.bytes(draft.body.len());
         let other = draft.bytes();
         assert_eq!(check(&one), check(&other));
         assert_eq!(pick(&one, &draft.device), pick(&other, &draft.device));
+    });
+}
+
+/// The bytes of the body that each image has, one by one.
+fn image_bytes(draft: &Draft) -> Vec<BTreeSet<u64>> {
+    let bytes = |row: &Row| match row.offset {
+        Offset::AfterTable(start) => (start..start + row.size).collect(),
+        Offset::Exactly(_) => unreachable!("images are counted from the table end"),
+    };
+    draft.rows.iter().map(bytes).collect()
+}
+
+#[test]
+fn images_share_all_their_bytes_or_none() {
+    each_case(|random| {
+        let mut draft = Draft::good(random, 5);
+        draft.body.truncate(12);
+        draft.scatter_images(random);
+        let images = image_bytes(&draft);
+        let overlaps =
+            |i: &usize| images[..*i].iter().any(|image| *image != images[*i] && !image.is_disjoint(&images[*i]));
+        let expected = match (0..5).find(overlaps) {
+            None => Checked { number: OK, place: 0, count: 5 },
+            Some(place) => Checked { number: OVERLAP, place: place as u64, count: 0 },
+        };
+        assert_eq!(check(&draft.bytes()), expected, "{images:?}");
     });
 }
 

@@ -10,7 +10,7 @@ use Rattle.bundle.specs.Records.{rowOf}
 use Rattle.bundle_reader.specs.Slots.{Staged}
 use Rattle.bundle_reader.proofs.RowLaws.{row-here, row-inside, row-next, row-is}
 use Rattle.bundle_reader.proofs.SlotLaws.{formed-lengths}
-use Rattle.bundle_reader.proofs.StageLaws.{no-number, passed-room, refused-is, checked-is, formed-none, formed-is, staged-none, staged-room, staged-more, staged-bad, staged-texts, staged-rest}
+use Rattle.bundle_reader.proofs.StageLaws.{no-number, passed-room, refused-is, checked-is, formed-none, formed-is, staged-none, staged-room, staged-more, staged-bad, staged-texts, staged-rest, staged-inner}
 use Rattle.bundle_reader.proofs.check_in.Statement.{statement}
 use Rattle.bundle_reader.proofs.check_in.Tie as tie
 
@@ -71,7 +71,7 @@ returns-2 c = let l = c .before .before .before .before .before .before .before 
     let s = c .before .before .before .before .before .before .before .before .before .before .before .before .before .before .before .before .args .s .now in
     let r = c .before .before .before .before .before .before .before .row-at in
     let m = c .before .before .before .before .canonical-at in
-    let b = staged-bad idRules (row s) _ (length s) (l .i) (l .out) _ _ _ (l .texts) (l .lens) (l .keys) (l .inv .2) s (r .result) (row-is s (l .i) (l .at) (l .inv .1) (r .result) (r .ensures)) (m .last .1 .1 .1 .0) (m .result) (m .ensures .0) (m .ensures .1) (c .before .before .before .before .before .before .before .before .before .before .before .frame .result .count) (c .before .before .before .before .before .before .before .before .loop-test .taken) (c .before .if2 .taken) in
+    let b = staged-bad idRules (row s) _ (length s) (l .i) (l .out) _ _ _ (l .texts) (l .lens) (l .keys) (l .inv .2) s (r .result) (row-is s (l .i) (l .at) (l .inv .1) (r .result) (r .ensures)) (m .last .1 .1 .1 .0) (m .result) (m .ensures .0) (m .ensures .1) _ (c .before .before .before .before .before .before .before .before .before .before .before .frame .result .count) (c .before .before .before .before .before .before .before .before .loop-test .taken) (c .before .if2 .taken) in
     (c .not-checked2 .ensures ∙ refused-is idRules _ 5 _ (b .0 ∙ p .rest) (omega arith), formed-is idRules _ _ _ _ _ _ _ _ _ (p .forms) (b .1))
 
 mul-lens : tie.Need-mul-lens Inv-loop μ-loop
@@ -116,10 +116,13 @@ loop-again c = let l = c .before .before .before .before .before .before .before
       staged-more idRules (row s) _ (length s) (l .i) (l .out) _ _ _ (l .texts) (l .lens) (l .keys) (l .inv .2) s (r .result) (row-is s (l .i) (l .at) (l .inv .1) (r .result) (r .ensures)) (m .last .1 .1 .1 .0) (m .result) (m .ensures .0) (m .ensures .1) (c .before .if2 .left) _ (c .first-outside .ensures),
     )
 
-compare-requires : tie.Need-compare-requires Inv-loop μ-loop
-compare-requires c κs = let l = c .before .before .before .before .loop in
-    let p = c .before .before .before .before .before .before .frame .ensures .passes (no-number _ (c .before .before .before .before .before .if1 .left)) in
-    (staged-texts idRules idRules-lawful _ _ _ _ (l .i) (l .out) _ _ _ (l .texts) (l .lens) (l .keys) (l .inv .2) (l .inv .0) (c .before .before .before .loop-test .left) (passed-room idRules _ _ _ p _ _ _ (c .before .before .before .before .before .before .before .before .before .before .before .pre)), p .few)
+compare-rows-requires : tie.Need-compare-rows-requires Inv-loop μ-loop
+compare-rows-requires c κs = let l = c .before .before .before .before .loop in
+    let p = c .before .before .before .before .before .before .frame .ensures .passes (no-number _ (c .before .before .before .before .before .if1 .left)) in (
+      staged-texts idRules idRules-lawful _ _ _ _ (l .i) (l .out) _ _ _ (l .texts) (l .lens) (l .keys) (l .inv .2) (l .inv .0) (c .before .before .before .loop-test .left) (passed-room idRules _ _ _ p _ _ _ (c .before .before .before .before .before .before .before .before .before .before .before .pre)),
+      p .few,
+      (λ h. staged-inner idRules _ _ _ (l .i) (l .out) _ _ _ (l .texts) (l .lens) (l .keys) (l .inv .2) (c .before .before .before .loop-test .left) h p),
+    )
 
 checked-requires : tie.Need-checked-requires Inv-loop μ-loop
 checked-requires c κs = search needs
@@ -139,7 +142,7 @@ same-length-6 c = let l = c .before .before .before .before .before .before .loo
 returns-3 : tie.Need-returns-3 Inv-loop μ-loop
 returns-3 c = let l = c .before .before .before .before .before .before .loop in
     let p = c .before .before .before .before .before .before .before .before .frame .ensures .passes (no-number _ (c .before .before .before .before .before .before .before .if1 .left)) in
-    let b = staged-rest idRules idRules-lawful _ _ _ _ (l .i) (l .out) _ _ _ (l .texts) (l .lens) (l .keys) (l .inv .2) (l .inv .0) (c .before .before .before .before .before .loop-test .left) (passed-room idRules _ _ _ p _ _ _ (c .before .before .before .before .before .before .before .before .before .before .before .before .before .pre)) _ _ (c .before .compare .ensures) in
+    let b = staged-rest idRules idRules-lawful _ _ _ _ (l .i) (l .out) _ _ _ (l .texts) (l .lens) (l .keys) (l .inv .2) (l .inv .0) (c .before .before .before .before .before .loop-test .left) (passed-room idRules _ _ _ p _ _ _ (c .before .before .before .before .before .before .before .before .before .before .before .before .before .pre)) _ _ (c .before .compare-rows .ensures) in
     (c .checked .ensures ∙ checked-is idRules _ _ _ (b .0 ∙ p .rest) _ (p .count-is), formed-is idRules _ _ _ _ _ _ _ _ _ (p .forms) (b .1))
 
 pub check-in-spec : {M : Type 1} → statement M
@@ -168,7 +171,7 @@ check-in-spec =
     add-i
     loop-less
     loop-again
-    compare-requires
+    compare-rows-requires
     checked-requires
     same-length-4
     same-length-5

@@ -3,6 +3,7 @@ use native.Mathlib.Omega.{arith}
 use Prim.Native.Nat.{_-_, _≤_}
 use mathlib.Core.Path.{refl, _∙_}
 use lib.ListN.{getD}
+use Rattle.wire.specs.Stop.{go}
 use Rattle.entry_id.specs.Rules.{idRules}
 use Rattle.entry_id.proofs.RuleLaws.{idRules-lawful}
 use Rattle.bundle.specs.Records.{noRecord, recordAt, rowOf, rowsOf}
@@ -74,7 +75,7 @@ returns-2 c = let l = c .before .before .before .before .before .before .before 
     let ids = a .ids .now in
     let r = getD (a .t2) (l .i) noRecord in
     let m = c .before .before .before .before .canonical-at in
-    let b = staged-bad idRules (rowsOf ids (a .t2)) 0 (a .len) (l .i) (l .out) _ _ _ (l .texts) (l .lens) (l .keys) (l .inv .1) ids r refl (m .last .1 .1 .1 .0) (m .result) (m .ensures .0) (m .ensures .1) (a .n) (c .before .before .before .before .before .before .before .loop-test .taken) (c .before .if2 .taken) in
+    let b = staged-bad idRules (rowsOf ids (a .t2)) 0 (a .len) (l .i) (l .out) _ _ _ (l .texts) (l .lens) (l .keys) (l .inv .1) ids r refl (m .last .1 .1 .1 .0) (m .result) (m .ensures .0) (m .ensures .1) go (a .n) (c .before .before .before .before .before .before .before .loop-test .taken) (c .before .if2 .taken) in
     (c .refused .ensures ∙ records-rest idRules ids _ (a .n) (a .t2) (k .result .number) (k .result .place) (k .ensures) (no-number _ (c .before .before .before .before .before .before .before .before .before .if1 .left)) 5 _ (b .0), formed-is idRules _ _ _ _ _ _ _ _ _ (rest-forms idRules ids 0 (a .n) (a .t2) (k .result .number) (k .result .place) (k .ensures) (no-number _ (c .before .before .before .before .before .before .before .before .before .if1 .left))) (b .1))
 
 mul-lens : tie.Need-mul-lens Inv-loop μ-loop
@@ -127,8 +128,8 @@ loop-again c = let l = c .before .before .before .before .before .before .before
     let m = c .before .before .before .before .canonical-at in
     (omega arith, staged-more idRules (rowsOf ids (a .t2)) 0 (a .len) (l .i) (l .out) _ _ _ (l .texts) (l .lens) (l .keys) (l .inv .1) ids r refl (m .last .1 .1 .1 .0) (m .result) (m .ensures .0) (m .ensures .1) (c .before .if2 .left) _ (c .first-outside .ensures))
 
-compare-requires : tie.Need-compare-requires Inv-loop μ-loop
-compare-requires c κs = let l = c .before .before .before .before .loop in
+compare-records-requires : tie.Need-compare-records-requires Inv-loop μ-loop
+compare-records-requires c κs = let l = c .before .before .before .before .loop in
     let k = c .before .before .before .before .before .before .bad-parts in
     let a = c .before .before .before .before .before .before .before .before .before .before .before .args in
     let ids = a .ids .now in
@@ -151,7 +152,7 @@ returns-3 c = let l = c .before .before .before .before .before .loop in
     let k = c .before .before .before .before .before .before .before .bad-parts in
     let a = c .before .before .before .before .before .before .before .before .before .before .before .before .args in
     let ids = a .ids .now in
-    let b = staged-rest idRules idRules-lawful _ _ _ _ (l .i) (l .out) _ _ _ (l .texts) (l .lens) (l .keys) (l .inv .1) (l .inv .0) (c .before .before .before .before .loop-test .left) (room-less 64 _ _ _ _ (records-few idRules ids 0 (a .n) (a .t2) (k .result .number) (k .result .place) (k .ensures) (no-number _ (c .before .before .before .before .before .before .if1 .left))) (c .before .before .before .before .before .before .before .before .before .before .before .before .pre)) _ _ (c .compare .ensures) in
+    let b = staged-rest idRules idRules-lawful _ _ _ _ (l .i) (l .out) _ _ _ (l .texts) (l .lens) (l .keys) (l .inv .1) (l .inv .0) (c .before .before .before .before .loop-test .left) (room-less 64 _ _ _ _ (records-few idRules ids 0 (a .n) (a .t2) (k .result .number) (k .result .place) (k .ensures) (no-number _ (c .before .before .before .before .before .before .if1 .left))) (c .before .before .before .before .before .before .before .before .before .before .before .before .pre)) _ _ (c .compare-records .ensures) in
     (records-rest idRules ids _ (a .n) (a .t2) (k .result .number) (k .result .place) (k .ensures) (no-number _ (c .before .before .before .before .before .before .if1 .left)) _ _ (b .0), formed-is idRules _ _ _ _ _ _ _ _ _ (rest-forms idRules ids 0 (a .n) (a .t2) (k .result .number) (k .result .place) (k .ensures) (no-number _ (c .before .before .before .before .before .before .if1 .left))) (b .1))
 
 pub examine-records-in-spec : {M : Type 1} → statement M
@@ -179,7 +180,7 @@ examine-records-in-spec =
     add-i
     loop-less
     loop-again
-    compare-requires
+    compare-records-requires
     same-length-4
     same-length-5
     same-length-6

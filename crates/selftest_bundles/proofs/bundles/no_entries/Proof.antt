@@ -11,4 +11,5 @@ unfolding computing.bundles
 no-entries-spec = tie.close (tie.spec
     (λ c. refl) (λ c κs. refl)
     (λ c. refl) (λ c κs. refl)
+    (λ c. refl) (λ c κs. refl)
     (λ c. search needs))

@@ -11,4 +11,5 @@ unfolding computing.bundles
 no-entries-normal-spec = tie.close (tie.spec
     (λ c. refl) (λ c. refl) (λ c. refl) (λ c κs. (refl, refl))
     (λ c. refl) (λ c. refl) (λ c. refl) (λ c κs. (refl, refl))
+    (λ c. refl) (λ c. refl) (λ c. refl) (λ c κs. (refl, refl))
     (λ c. search needs))

@@ -12,4 +12,5 @@ not-asked-spec = tie.close (tie.spec
     (λ c. refl) (λ c. refl) (λ c κs. refl)
     (λ c. refl) (λ c. refl) (λ c κs. refl)
     (λ c. refl) (λ c. refl) (λ c κs. refl)
+    (λ c. refl) (λ c. refl) (λ c κs. refl)
     (λ c. search needs))
