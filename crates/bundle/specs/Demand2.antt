@@ -31,6 +31,7 @@ pub record Demand2 : Type 0 where
   -- "A container is accepted exactly when [the] rules hold" (RULES 7.4).
   pub checked : (s : List ℕ) → CheckExact idRules s
   pub places : (s : List ℕ) → PlaceExact idRules s
+  -- 21 in bytes, and what "an accepted table also has" (RULES 4.6)
   pub overlap : OverlapExact
   pub apart : ImagesApart idRules
   -- "A pick returns the image of the one compatible entry, or NONE exactly if there is none."

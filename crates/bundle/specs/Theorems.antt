@@ -1,4 +1,5 @@
--- What holds of the check and the pick, whatever the bytes. Statements only; `proofs/Theorems` proves each, `proofs/PlaceLaws` the places.
+-- What holds of the check and the pick, whatever the bytes. Statements only; `proofs/Theorems` proves each, `proofs/PlaceLaws` the places,
+-- `proofs/OverlapLaws` what is said of overlaps.
 use Prim.Native.Nat.{ℕ, suc, _+_, _<_, _≤_}
 use mathlib.Core.Path.{_≡_}
 use mathlib.Core.Logic.{_↔_}
