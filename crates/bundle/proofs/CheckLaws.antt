@@ -29,7 +29,7 @@ unrefused-stop t v k e = rw (e, unrefused)
 -- ---- the numbers of a chain
 
 module _ (P : ℕ → Type 0) where
-  ⨾-all : (a b : Stop) → P (a .number) → P (b .number) → P ((a ⨾ b) .number)
+  pub ⨾-all : (a b : Stop) → P (a .number) → P (b .number) → P ((a ⨾ b) .number)
   ⨾-all a b p q = cases (a .number) refl
     where
       cases : (k : ℕ) → a .number ≡ k → P ((a ⨾ b) .number)

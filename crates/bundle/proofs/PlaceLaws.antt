@@ -15,7 +15,7 @@ use Rattle.entry_id.specs.IdRules.{IdRules}
 use Rattle.bundle.specs.Table.{Row, count, row, tableEnd}
 use Rattle.bundle.specs.Check.{badId, outside, overlaps, overlapStop, meanSame, mix, headStop, tableStop, rowsStop, bundleStop, check}
 use Rattle.bundle.specs.Theorems.{Lowest, Earlier, PlaceExact}
-use Rattle.bundle.proofs.CheckLaws.{headStop-le}
+use Rattle.bundle.proofs.CheckLaws.{⨾-all, headStop-le}
 
 -- ---- which of two refuses
 
@@ -38,11 +38,7 @@ module _ (a b : Stop) (m : ℕ) (e : (a ⨾ b) .number ≡ suc m) where
 
   -- either
   from : (P : Type 0) → (a .number ≡ suc m → P) → (b .number ≡ suc m → P) → P
-  from P x y = by (a .number) refl
-    where
-      by : (n : ℕ) → a .number ≡ n → P
-      by zero q = y (ap (λ t. t .number) (sym (⨾-next a b q)) ∙ e)
-      by (suc j) q = x (ap (λ t. t .number) (sym (⨾-stop a b j q)) ∙ e)
+  from P x y = ⨾-all (λ k. k ≡ suc m → P) a b x y e
 
 only-when : (b : Bool) (k i m : ℕ) → stopWhen b (stop k i) .number ≡ suc m → suc m ≡ k
 unfolding stopWhen
