@@ -115,7 +115,7 @@ module _ (R : IdRules) (s : List ℕ) where
   after-4 : (m : ℕ) → (at5 ⨾ at6 ⨾ at21 ⨾ at7 ⨾ at8) .number ≡ suc m → 5 ≤ suc m
   after-4 m e = from at5 (at6 ⨾ at21 ⨾ at7 ⨾ at8) m e _ (λ q. omega (arith, only-at 5 n _ m q)) (λ q. omega (arith, after-5 m q))
 
-  -- and before each but 7 a lower one
+  -- and before each but 7 and 8 a lower one
   module _ (m : ℕ) (e : bundleStop R s .number ≡ suc m) where
     past : (a b : Stop) → bundleStop R s ≡ a ⨾ b → (a .number ≡ suc m → ⊥) → bundleStop R s ≡ b
     past a b q other = q ∙ second a b m (ap (λ t. t .number) (sym q) ∙ e) other

@@ -357,7 +357,7 @@ fn read_spans(s: &[u8], n: usize, starts: &mut [usize], sizes: &mut [usize])
 
 // The lower of two numbers.
 fn lower(a: usize, b: usize) -> usize
-    ensures { λ r. ⌜ (r ≤ a) × (r ≤ b) ⌝ }
+    ensures { λ r. ⌜ (r ≤ a) × (r ≤ b) × (r < a → r ≡ b) ⌝ }
 {
     if a < b {
         return a;
@@ -367,7 +367,7 @@ fn lower(a: usize, b: usize) -> usize
 
 // The higher of two numbers.
 fn higher(a: usize, b: usize) -> usize
-    ensures { λ r. ⌜ (a ≤ r) × (b ≤ r) ⌝ }
+    ensures { λ r. ⌜ (a ≤ r) × (b ≤ r) × (a < r → r ≡ b) ⌝ }
 {
     if b < a {
         return a;

@@ -18,7 +18,7 @@ const FIRST: EntryRecord = EntryRecord {
     image_len: 3,
 };
 
-// The second, with image "cd". The two share a byte of the buffer, which no bundle writer minds: OVERLAP is of bundles.
+// The second, with image "cd". The two share a byte of the buffer: the bundle writer does not ask OVERLAP.
 const SECOND: EntryRecord = EntryRecord {
     id_start: 35,
     id_len: 35,

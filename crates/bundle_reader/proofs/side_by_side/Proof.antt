@@ -56,12 +56,14 @@ loop-less c = search needs
 loop-again : tie.Need-loop-again Inv-loop μ-loop
 loop-again c = let l = c .before .before .before .before .before .before .before .loop in
     let r = c .before .before .before .before .before .row-at in
+    let low = c .before .before .lower .ensures in
+    let high = c .before .higher .ensures in
     let start = image-start _ (l .i) (l .at) (l .inv .1) (r .result) (r .ensures) in
     let end = ap₂ (λ x y. x + y) start (image-len _ (l .i) (l .at) (l .inv .1) (r .result) (r .ensures)) in (
       omega arith,
       row-next _ (l .i) (l .at) (l .inv .1) (r .result) (r .ensures),
       below-more _ (l .i) (l .inv .2) (apart-beside _ (l .i) (l .low) (l .high) (l .inv .3) _ _ start end (c .before .before .before .if1 .left)),
-      within-more _ (l .i) (l .low) (l .high) (l .inv .3) _ _ start end _ _ (c .before .before .lower .ensures) (c .before .higher .ensures),
+      within-more _ (l .i) (l .low) (l .high) (l .inv .3) _ _ start end _ _ (low .0, low .1) (high .0, high .1),
     )
 
 returns-2 : tie.Need-returns-2 Inv-loop μ-loop
