@@ -26,12 +26,13 @@ TOOL := target/offload
 VERSION := $(shell sed -n 's/^\#define OFFLOAD_VERSION "\([0-9.]*\)".*/\1/p' $(HEADER))
 LIBRARY := target/staticlib/liboffload.a
 HARNESS := target/staticlib/libharness.a
-BINARIES := target/staticlib/liboffload_binaries_bench.a
+BENCH_CALLS := target/staticlib/libbench_calls.a
 CARGO := cargo --quiet
 SECOND := --offline --manifest-path second/Cargo.toml
+BENCH := $(CARGO) run --release --offline --manifest-path bench/Cargo.toml --
 
 .PHONY: demo test install uninstall clean help tool library harness prove tools
-.PHONY: selftest calls stack compare second-test tool-test example install-test build-test gate-test damage bench
+.PHONY: selftest calls stack compare second-test tool-test example install-test build-test gate-test damage bench order
 
 ## For use
 ##   make               the tool, and the library that it needs
@@ -136,8 +137,12 @@ damage: $(TOOL) target/make-damage
 ##
 ## Speed
 ##   make bench         speed beside that of the second program, plain C, memcpy, LLVM's tools and, with llvm-19-dev, LLVM's library
-bench: tools $(TOOL) $(BINARIES)
-	$(CARGO) run --release --offline --manifest-path bench/Cargo.toml -- $(TOOL) target/bench | tee target/bench.md
+bench: tools $(TOOL) $(BENCH_CALLS)
+	$(BENCH) $(TOOL) target/bench | tee target/bench.md
+
+##   make order         the order of two IDs alone, which is timed in the gate too
+order: tools $(LIBRARY) $(BENCH_CALLS)
+	LLVM_CONFIG= $(BENCH) order
 
 ##
 ## Settings, as in `make tool CC=clang`: CC CXX CPPFLAGS CFLAGS CXXFLAGS LDFLAGS LDLIBS WARNINGS PREFIX DESTDIR
@@ -150,7 +155,7 @@ sources = crates.txt $(shell find $$(scripts/crates.sh $(1) | sed 's|.*|crates/&
 
 $(LIBRARY): $(call sources,offload)
 $(HARNESS): $(call sources,harness)
-$(BINARIES): $(call sources,offload_binaries_bench)
+$(BENCH_CALLS): $(call sources,bench_calls)
 # A program is compiled later, and its compiler must not turn out to be missing then.
 target/staticlib/lib%.a:
 	@scripts/need.sh rt $(firstword $(CC))

@@ -19,7 +19,7 @@ fn main() {
     println!("cargo:rustc-link-search=native={folder}");
     println!("cargo:rustc-link-lib=static=baseline");
     println!("cargo:rustc-link-search=native=../target/staticlib");
-    for archive in ["offload", "offload_binaries_bench"] {
+    for archive in ["offload", "bench_calls"] {
         println!("cargo:rustc-link-lib=static={archive}");
         println!("cargo:rerun-if-changed=../target/staticlib/lib{archive}.a");
     }

@@ -10,7 +10,7 @@ cp -R --parents tests/gate.sh scripts "$folder/a station"
 cd "$folder/a station"
 mkdir -p crates/one/must-fail
 touch crates/one/must-fail/wrong.edit
-printf 'one:\noffload: one\nharness: one\n' >crates.txt
+printf 'one:\noffload: one\nharness: one\nbench_calls: one\n' >crates.txt
 tried=0
 wrong=0
 
@@ -19,15 +19,15 @@ cat >"$folder/programs/rt" <<'TEXT'
 [[ $BREAK == "$1" ]] && exit 3
 [[ $1 == ci ]] || exit 0
 [[ $BREAK == killed ]] && kill -KILL $$
-printf 'rt: %s proved (1 s)\n' one offload
+printf 'rt: %s proved (1 s)\n' one offload harness
 [[ $BREAK == died ]] && exit 2
-echo 'rt: harness proved (1 s)'
+echo 'rt: bench_calls proved (1 s)'
 [[ $BREAK == slow ]] && { echo $$ >started; sleep 60; }
 case $BREAK in
   silent) echo 'rt: ok' ;;
-  edit) echo '3 passed, 1 failed'; exit 1 ;;
-  status) echo '4 passed, 0 failed'; exit 2 ;;
-  *) printf '%s\n' 'rt: must-fail one/wrong: refused, as it must be (1 s)' '4 passed, 0 failed' ;;
+  edit) echo '4 passed, 1 failed'; exit 1 ;;
+  status) echo '5 passed, 0 failed'; exit 2 ;;
+  *) printf '%s\n' 'rt: must-fail one/wrong: refused, as it must be (1 s)' '5 passed, 0 failed' ;;
 esac
 TEXT
 cat >"$folder/programs/make" <<'TEXT'
@@ -46,27 +46,27 @@ expect() {
   [[ $status == "$1" && $verdict == "$2" ]] || { printf 'wrong: %s: status %s, %s\n' "$3" "$status" "$verdict"; cat said; wrong=1; }
 }
 
-# Four of `rt ci`, and 13 parts.
-expect 0 '17 passed, 0 failed' nothing
-grep -q '^  3 of 3: harness proved (1 s)$' said
+# Five of `rt ci`, and 14 parts.
+expect 0 '19 passed, 0 failed' nothing
+grep -q '^  4 of 4: bench_calls proved (1 s)$' said
 grep -q '^  1 of 1 edits: one/wrong: refused' said
 grep -qx 'calls: passed ([0-9]* s)' said
-expect 1 '16 passed, 1 failed' fmt
-expect 1 '16 passed, 1 failed' 'make selftest'
-expect 1 '16 passed, 1 failed' 'make second-test'
-expect 1 '16 passed, 1 failed' 'make damage'
-expect 1 '16 passed, 1 failed' 'kill calls'
-expect 1 '16 passed, 1 failed' edit
-expect 1 '17 passed, 1 failed' status
-expect 1 '13 passed, 1 failed' silent
-# The library is not proved, or not built: its nine parts have failed.
-expect 1 '4 passed, 10 failed' ci
-expect 1 '4 passed, 10 failed' killed
-expect 1 '4 passed, 10 failed' died
+expect 1 '18 passed, 1 failed' fmt
+expect 1 '18 passed, 1 failed' 'make selftest'
+expect 1 '18 passed, 1 failed' 'make second-test'
+expect 1 '18 passed, 1 failed' 'make damage'
+expect 1 '18 passed, 1 failed' 'kill calls'
+expect 1 '18 passed, 1 failed' edit
+expect 1 '19 passed, 1 failed' status
+expect 1 '14 passed, 1 failed' silent
+# The library is not proved, or not built: its ten parts have failed.
+expect 1 '4 passed, 11 failed' ci
+expect 1 '4 passed, 11 failed' killed
+expect 1 '4 passed, 11 failed' died
 grep -q '^Did not run to the end: library compare ' said
-expect 1 '8 passed, 9 failed' 'make harness'
+expect 1 '9 passed, 10 failed' 'make harness'
 # Something that the gate needs is missing: nothing runs.
-expect 2 '0 passed, 14 failed' 'make tools'
+expect 2 '0 passed, 15 failed' 'make tools'
 
 # A gate that is ended says so, and ends what it started (a process that nobody waited for is a zombie).
 ended() { [[ ! -e /proc/$1 || $(cut -d ' ' -f 3 "/proc/$1/stat") == Z ]]; }

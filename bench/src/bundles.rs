@@ -81,6 +81,7 @@ pub fn jobs() {
         let bundle = sample::bundle(entries, IMAGE);
         row(&table, "normalise", entries, &normalise(&bundle));
     }
+    row(&table, "normalise, IDs in falling order", 64, &normalise(&sample::falling(64, IMAGE)));
     let (bundle, last) = (sample::three_kinds(IMAGE), sample::three_kinds_id(sample::THREE_KINDS - 1));
     row(&table, "check of three kinds", sample::THREE_KINDS, &check(&bundle));
     row(&table, "pick of three kinds", sample::THREE_KINDS, &pick(&bundle, last.as_bytes()));

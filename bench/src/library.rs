@@ -5,6 +5,7 @@ extern "C" {
     fn offload_pick_number(bundle: *const u8, bundle_length: usize, device: *const u8, device_length: usize) -> u64;
     fn offload_entry_number(bundle: *const u8, bundle_length: usize, index: usize) -> u64;
     fn offload_normalise_length(bundle: *const u8, bundle_length: usize, out: *mut u8, out_length: usize) -> u64;
+    fn offload_comes_before(a: *const u8, a_length: usize, b: *const u8, b_length: usize) -> bool;
     fn offload_binaries_next_size(binaries: *const u8, length: usize, position: usize, taken: usize) -> u64;
 }
 
@@ -26,6 +27,11 @@ pub fn entry(bundle: &[u8], index: usize) -> u64 {
 pub fn normalise(bundle: &[u8], out: &mut [u8]) -> u64 {
     // SAFETY: the slices are as long as they say, and the output shares no byte with the bundle.
     unsafe { offload_normalise_length(bundle.as_ptr(), bundle.len(), out.as_mut_ptr(), out.len()) }
+}
+
+pub fn comes_before(a: &[u8], b: &[u8]) -> bool {
+    // SAFETY: the slices are as long as they say.
+    unsafe { offload_comes_before(a.as_ptr(), a.len(), b.as_ptr(), b.len()) }
 }
 
 /// How many binaries there are before the first answer that is none.

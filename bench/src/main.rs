@@ -1,4 +1,5 @@
-//! Times the library: `bench TOOL FOLDER`, with the tool to run and a folder for files. Prints tables for docs/BENCHMARKS.md.
+//! Times the library: `bench TOOL FOLDER`, with the tool to run and a folder for files, or `bench order`, the order of two IDs alone.
+//! Prints tables for docs/BENCHMARKS.md.
 
 mod baseline;
 mod baseline_binaries;
@@ -7,25 +8,31 @@ mod bundles;
 mod clock;
 mod library;
 mod llvm;
+mod order;
 mod sample;
 mod table;
 
 use std::process::{exit, Command};
 
 fn main() {
-    let words: Vec<String> = std::env::args().collect();
-    let (tool, work) = match words.as_slice() {
-        [_, tool, work] => (tool, work),
+    let words: Vec<String> = std::env::args().skip(1).collect();
+    match words.iter().map(String::as_str).collect::<Vec<_>>().as_slice() {
+        ["order"] => order::ids(),
+        [tool, work] => all(tool, work),
         _ => {
-            eprintln!("bench TOOL FOLDER");
+            eprintln!("bench TOOL FOLDER, or bench order");
             exit(2)
         }
-    };
+    }
+}
+
+fn all(tool: &str, work: &str) {
     std::fs::create_dir_all(work).expect("a folder for files");
     println!("{}\n", machine());
     baseline::compare(5000);
     bundles::jobs();
     bundles::growth();
+    order::ids();
     bundles::copying();
     binaries::reading();
     llvm::jobs(tool, work);

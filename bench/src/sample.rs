@@ -1,6 +1,7 @@
 //! Containers as LLVM's tools write them.
 
 use second::model::bundle::{check, packed};
+use second::model::id::{canonical, meaning};
 use second::model::{integer, OK};
 use second::samples::BINARIES;
 
@@ -27,9 +28,28 @@ pub fn three_kinds_id(entry: usize) -> String {
     format!("{}-amdgcn-amd-amdhsa--{}", ["host", "hip", "openmp"][entry % 3], PROCESSORS[entry / 3])
 }
 
+/// A canonical ID of 256 bytes, the most that one may have; given a place, one that differs from it there first.
+pub fn long_id(place: Option<usize>) -> Vec<u8> {
+    let kind = if place == Some(0) { "openmp" } else { "hip" };
+    let mut id = format!("{kind}-amdgcn-amd-amdhsa--gfx").into_bytes();
+    id.resize(256, b'0');
+    if let Some(place @ 1..) = place {
+        id[place] += 1;
+    }
+    assert_eq!(meaning(&id).as_ref().map(canonical).as_ref(), Some(&id));
+    id
+}
+
 /// A bundle of so many entries, each with an image of this size.
 pub fn bundle(entries: usize, image: usize) -> Vec<u8> {
     accepted((0..entries).map(id), image)
+}
+
+/// The same bundle with its entries in falling order of their IDs, which takes most comparisons to sort.
+pub fn falling(entries: usize, image: usize) -> Vec<u8> {
+    let mut ids: Vec<String> = (0..entries).map(id).collect();
+    ids.sort_by(|a, b| b.cmp(a));
+    accepted(ids.into_iter(), image)
 }
 
 /// The bundle with its images, which have one size, in other places: that of entry k is where that of entry `place(k)` was.

@@ -14,7 +14,7 @@ use Rattle.wire.specs.Bytes.{same, common}
 use Rattle.entry_id.proofs.TextLaws.{every-imp}
 use Rattle.entry_id.proofs.KindLaws.{head-none, head-colon, head-more}
 use Rattle.wire.proofs.Bools.{cases, byBool, clash, and-both, or-true, and-false, of-true, is-true, and-l, and-r, and-t, or-l, or-r}
-use Rattle.wire.proofs.ByteLaws.{same-refl, same-eq, same-length, same-common, common-within}
+use Rattle.wire.proofs.ByteLaws.{same-refl, same-eq, same-length, same-common, common-within, common-apart, common-take, common-get}
 use Rattle.entry_id.specs.Meaning.{piecesOf}
 use Rattle.entry_id.specs.Scan.{part, Run, piecesAt, endsAt}
 use Rattle.entry_compare.specs.Meet.{MeetIs}
@@ -63,28 +63,6 @@ unfolding within every
 within-end x at qs k = rw (pieces-none x at k)
 
 -- ---- common starts
-
--- behind it the bytes differ
-common-apart : (s t : List ℕ) → common s t < length s → common s t < length t → eqb (getD s (common s t) 0) (getD t (common s t) 0) ≡ false
-unfolding common
-common-apart [] t h k = absurd (omega arith)
-common-apart (x ∷ s) [] h k = absurd (omega arith)
-common-apart (x ∷ s) (y ∷ t) h k = byBool (eqb x y)
-    (λ e. let z : common (x ∷ s) (y ∷ t) ≡ suc (common s t) = rw e in rw z (common-apart s t (omega arith) (omega arith)))
-    (λ e. let z : common (x ∷ s) (y ∷ t) ≡ 0 = rw e in rw z e)
-
-common-take : (s t : List ℕ) (n : ℕ) → n ≤ common s t → take n s ≡ take n t
-unfolding common
-common-take s t zero h = refl
-common-take [] t (suc n) h = absurd (omega arith)
-common-take (x ∷ s) [] (suc n) h = absurd (omega arith)
-common-take (x ∷ s) (y ∷ t) (suc n) h = byBool (eqb x y)
-    (λ e. let z : common (x ∷ s) (y ∷ t) ≡ suc (common s t) = rw e in ap₂ (λ a l. a ∷ l) (eqb-true x y e) (common-take s t n (omega arith)))
-    (λ e. let z : common (x ∷ s) (y ∷ t) ≡ 0 = rw e in absurd (omega arith))
-
-common-get : (s t : List ℕ) (i : ℕ) → i < common s t → getD s i 0 ≡ getD t i 0
-common-get s t i h =
-    sym (getD-take (suc i) s i 0 (omega arith)) ∙ ap (λ l. getD l i 0) (common-take s t (suc i) (omega arith)) ∙ getD-take (suc i) t i 0 (omega arith)
 
 module _ (x : List ℕ) (i : ℕ) where
   head-ends : endsAt x i ≡ true → headOf (drop i x) ≡ []

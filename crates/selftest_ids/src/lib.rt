@@ -8,6 +8,7 @@ pub fn run() {
     words::words();
     words::comparisons();
     words::long_comparisons();
+    words::end_comparisons();
     words::puts();
     words::copies();
     words::no_copies();

@@ -39,22 +39,44 @@ pub(crate) fn comparisons() {
     expect_compared(b"\xff", b"\x7f", 0, false, false);
 }
 
-// Longer than a block of 16 bytes.
+// Longer than a word of 8 bytes: where in a word the first difference is, and that it alone decides.
 pub(crate) fn long_comparisons() {
     expect_compared(
-        b"0123456789abcdef0123456789abcdef!",
-        b"0123456789abcdef0123456789abcdef!",
-        33,
+        b"0123456789abcdef0123456789abcdef",
+        b"0123456789abcdef0123456789abcdef",
+        32,
         true,
         false,
     );
     expect_compared(
         b"0123456789abcdef0123456789abcdef",
-        b"0123456789abcdef0123_56789abcdef",
-        20,
+        b"0123456789abcdef1023456789abcdef",
+        16,
         false,
         true,
     );
+    expect_compared(
+        b"0123456789abcdef0123_56789abcdef",
+        b"0123456789abcdef0123456789abcdef",
+        20,
+        false,
+        false,
+    );
+    expect_compared(
+        b"0123456789abcdef0123456089abcdef",
+        b"0123456789abcdef0123456789abcdef",
+        23,
+        false,
+        true,
+    );
+}
+
+// Seven bytes behind the last word.
+pub(crate) fn end_comparisons() {
+    expect_compared(b"0123456789abcde", b"0123456789abcde", 15, true, false);
+    expect_compared(b"0123456789abcde", b"0123456789abcd", 14, false, false);
+    expect_compared(b"0123456789abcde", b"0123456789abce0", 13, false, true);
+    expect_compared(b"0123456789b", b"0123456789abcde", 10, false, false);
 }
 
 fn expect_put(out: &mut [u8], at: usize, value: u64, after: &[u8])

@@ -1,16 +1,14 @@
 -- Laws of byte strings: equality, the order, the common start. Assumes nothing.
-use Prim.Native.Nat.{ℕ, zero, suc, _+_, _≤_, _<_}
-use native.Mathlib.Nat.{add-zero}
-use native.Mathlib.Numerals.{add-one}
+use Prim.Native.Nat.{ℕ, zero, suc, _+_, _-_, _≤_, _<_}
 use native.Mathlib.Omega.{arith}
-use mathlib.Core.Path.{_≡_, refl, sym, ap, _∙_, subst}
-use mathlib.Core.Logic.{_⊎_, inl, inr, ⊎-elim}
+use mathlib.Core.Path.{_≡_, refl, sym, ap, ap₂, _∙_, subst}
+use mathlib.Core.Logic.{_⊎_, inl, inr}
 use mathlib.Core.Bool.{Bool, true, false, _&&_, cond, or-false}
 use mathlib.Core.List.{List, [], _∷_}
 use lib.Dec.{T, eqb, ltb, eqb→eq, eqb-refl, ltb→lt, lt→ltb, eqb·suc-suc}
-use lib.ListN.{length, getD, drop, drop-of-length-le}
-use lib.Seq.{drop-cons}
-use borrow.Author.Tests.{eq-eqb, ne-eqb, eqb-true, eqb-false, le-ltb}
+use lib.ListN.{length, getD, take}
+use lib.Seq.{getD-take}
+use borrow.Author.Tests.{eq-eqb, ne-eqb, eqb-true, eqb-false, ltb-true, ltb-false, le-ltb}
 use Rattle.wire.specs.Bytes.{same, before, common}
 use Rattle.wire.proofs.Bools.{and-l, and-r, and-t, or-t, or-l, or-r, of-true, is-true, is-false, byBool, clash, cond-ind}
 
@@ -107,31 +105,7 @@ before-other a b s n =
     (λ e. of-true (before b a) e)
     (λ e. absurd (n (before-total a b s (λ t. subst T e t))))
 
--- ---- common: what is left decides
-
-common-step : (a b : List ℕ) (i : ℕ) → i < length a → i < length b → getD a i 0 ≡ getD b i 0 → common (drop i a) (drop i b) ≡ suc (common (drop (suc i) a) (drop (suc i) b))
-unfolding common
-common-step a b i ha hb e = rw (drop-cons a i 0 ha, drop-cons b i 0 hb, eq-eqb _ _ e)
-
-pub common-zero : (a b : List ℕ) → common a b ≡ 0 + common (drop 0 a) (drop 0 b)
-common-zero a b = omega arith
-
-pub common-more : (a b : List ℕ) (i : ℕ) → i < length a → i < length b → common a b ≡ i + common (drop i a) (drop i b) → getD a i 0 ≡ getD b i 0 → common a b ≡ (i + 1) + common (drop (i + 1) a) (drop (i + 1) b)
-common-more a b i ha hb h e = rw add-one (omega (arith, common-step a b i ha hb e))
-
--- m equal bytes at once
-pub common-many : (m : ℕ) (a b : List ℕ) (i : ℕ) → i + m ≤ length a → i + m ≤ length b → ((k : ℕ) → k < m → getD a (i + k) 0 ≡ getD b (i + k) 0)
-    → common a b ≡ i + common (drop i a) (drop i b) → common a b ≡ (i + m) + common (drop (i + m) a) (drop (i + m) b)
-common-many zero a b i ha hb e h = rw (add-zero i) h
-common-many (suc m) a b i ha hb e h =
-    let z : (i + m) + 1 ≡ i + suc m = omega arith in
-    rw z at (common-more a b (i + m) (omega arith) (omega arith) (common-many m a b i (omega arith) (omega arith) (λ k l. e k (omega arith)) h) (e m (omega arith)))
-
-pub common-stop : (a b : List ℕ) (i : ℕ) → i < length a → i < length b → common a b ≡ i + common (drop i a) (drop i b) → (getD a i 0 ≡ getD b i 0 → ⊥) → i ≡ common a b
-unfolding common
-common-stop a b i ha hb h n =
-    let z : common (drop i a) (drop i b) ≡ 0 = rw (drop-cons a i 0 ha, drop-cons b i 0 hb, ne-eqb _ _ n) in
-    omega arith
+-- ---- common
 
 -- it is within both
 pub common-within : (a b : List ℕ) → (common a b ≤ length a) × (common a b ≤ length b)
@@ -141,21 +115,65 @@ common-within (x ∷ a) [] = (omega arith, omega arith)
 common-within (x ∷ a) (y ∷ b) = let w = common-within a b in
     cond-ind (λ r. (r ≤ suc (length a)) × (r ≤ suc (length b))) (eqb x y) (suc (common a b)) 0 (omega (arith, w .0), omega (arith, w .1)) (omega arith, omega arith)
 
-common-nil-r : (a : List ℕ) → common a [] ≡ 0
-unfolding common
-common-nil-r [] = refl
-common-nil-r (x ∷ a) = refl
+pub common-shorter : (a b : List ℕ) (n : ℕ) → (n ≡ length a) ⊎ (n ≡ length b) → common a b ≤ n
+common-shorter a b n (inl e) = omega (arith, common-within a b .0, e)
+common-shorter a b n (inr e) = omega (arith, common-within a b .1, e)
 
-common-nil-l : (b : List ℕ) → common [] b ≡ 0
+common-nil : (b : List ℕ) → common [] b ≡ 0
 unfolding common
-common-nil-l b = refl
+common-nil b = refl
 
-pub common-end : (a b : List ℕ) (n i : ℕ) → (n ≡ length a) ⊎ (n ≡ length b) → n ≤ i → common a b ≡ i + common (drop i a) (drop i b) → i ≡ common a b
-common-end a b n i w l h =
-    ⊎-elim
-    (λ e. let z : common (drop i a) (drop i b) ≡ 0 = rw (drop-of-length-le a {i = i} (omega arith)) (common-nil-l (drop i b)) in omega arith)
-    (λ e. let z : common (drop i a) (drop i b) ≡ 0 = rw (drop-of-length-le b {i = i} (omega arith)) (common-nil-r (drop i a)) in omega arith)
-    w
+module _ (x y : ℕ) (a b : List ℕ) where
+  common-eq : x ≡ y → common (x ∷ a) (y ∷ b) ≡ suc (common a b)
+  unfolding common
+  common-eq e = rw (eq-eqb x y e)
+
+  common-ne : (x ≡ y → ⊥) → common (x ∷ a) (y ∷ b) ≡ 0
+  unfolding common
+  common-ne n = rw (ne-eqb x y n)
+
+-- the bytes behind it differ
+pub common-apart : (a b : List ℕ) → common a b < length a → common a b < length b → eqb (getD a (common a b) 0) (getD b (common a b) 0) ≡ false
+common-apart [] b h k = absurd (omega arith)
+common-apart (x ∷ a) [] h k = absurd (omega arith)
+common-apart (x ∷ a) (y ∷ b) h k = byBool (eqb x y)
+    (λ t. let z = common-eq x y a b (eqb-true x y t) in rw z (common-apart a b (omega arith) (omega arith)))
+    (λ f. rw (common-ne x y a b (eqb-false x y f)) f)
+
+-- both have it
+pub common-take : (a b : List ℕ) (n : ℕ) → n ≤ common a b → take n a ≡ take n b
+common-take a b zero h = refl
+common-take [] b (suc n) h = absurd (omega (arith, common-nil b))
+common-take (x ∷ a) [] (suc n) h = absurd (omega (arith, common-within (x ∷ a) [] .1))
+common-take (x ∷ a) (y ∷ b) (suc n) h = byBool (eqb x y)
+    (λ t. let e = eqb-true x y t in ap₂ (λ z l. z ∷ l) e (common-take a b n (omega (arith, common-eq x y a b e))))
+    (λ f. absurd (omega (arith, common-ne x y a b (eqb-false x y f))))
+
+pub common-get : (a b : List ℕ) (k : ℕ) → k < common a b → getD a k 0 ≡ getD b k 0
+common-get a b k h =
+    sym (getD-take (suc k) a k 0 (omega arith)) ∙ ap (λ l. getD l k 0) (common-take a b (suc k) (omega arith)) ∙ getD-take (suc k) b k 0 (omega arith)
+
+-- it takes in every byte up to the first difference
+common-reach : (a b : List ℕ) (m : ℕ) → m ≤ length a → m ≤ length b → ((k : ℕ) → k < m → getD a k 0 ≡ getD b k 0) → m ≤ common a b
+common-reach a b m ha hb e =
+    byBool (ltb (common a b) m)
+    (λ t. let h = ltb-true (common a b) m t in absurd (eqb-false _ _ (common-apart a b (omega arith) (omega arith)) (e (common a b) h)))
+    (λ f. ltb-false (common a b) m f)
+
+-- n bytes at i, which are the same or not
+module _ (n : ℕ) (a b : List ℕ) (i : ℕ) where
+  pub common-past : i + n ≤ length a → i + n ≤ length b → i ≤ common a b → ((k : ℕ) → k < n → getD a (i + k) 0 ≡ getD b (i + k) 0) → i + n ≤ common a b
+  common-past ha hb h e = common-reach a b (i + n) ha hb go
+    where
+      go : (k : ℕ) → k < i + n → getD a k 0 ≡ getD b k 0
+      go k l = byBool (ltb k i)
+          (λ t. common-get a b k (omega (arith, ltb-true k i t, h)))
+          (λ f. let z : i + (k - i) ≡ k = omega (arith, ltb-false k i f) in rw z at (e (k - i) (omega (arith, ltb-false k i f, l))))
+
+  pub common-short : (((k : ℕ) → k < n → getD a (i + k) 0 ≡ getD b (i + k) 0) → ⊥) → common a b < i + n
+  common-short d = byBool (ltb (common a b) (i + n))
+      (λ t. ltb-true (common a b) (i + n) t)
+      (λ f. absurd (d (λ k l. common-get a b (i + k) (omega (arith, ltb-false (common a b) (i + n) f)))))
 
 -- ---- equality and order by what is in common
 
@@ -182,14 +200,6 @@ module _ (x y : ℕ) (a b : List ℕ) where
   unfolding before
   before-ne n = rw (ne-eqb x y n) (or-false (ltb x y))
 
-  common-eq : x ≡ y → common (x ∷ a) (y ∷ b) ≡ suc (common a b)
-  unfolding common
-  common-eq e = rw (eq-eqb x y e)
-
-  common-ne : (x ≡ y → ⊥) → common (x ∷ a) (y ∷ b) ≡ 0
-  unfolding common
-  common-ne n = rw (ne-eqb x y n)
-
 -- both go on after the common start: the bytes there decide
 pub before-in : (a b : List ℕ) → common a b < length b → common a b < length a → ltb (getD a (common a b) 0) (getD b (common a b) 0) ≡ before a b
 before-in [] b hb ha = absurd (omega arith)
@@ -214,9 +224,17 @@ before-end (x ∷ a) (y ∷ b) hb ha =
 -- b is used up
 pub before-not : (a b : List ℕ) → length b ≤ common a b → before a b ≡ false
 before-not [] [] hb = unfold before in refl
-before-not [] (y ∷ b) hb = absurd (omega (arith, common-nil-l (y ∷ b)))
+before-not [] (y ∷ b) hb = absurd (omega (arith, common-nil (y ∷ b)))
 before-not (x ∷ a) [] hb = unfold before in refl
 before-not (x ∷ a) (y ∷ b) hb =
     byBool (eqb x y)
     (λ t. let e = eqb-true x y t in before-eq x y a b e ∙ before-not a b (omega (arith, common-eq x y a b e)))
     (λ f. absurd (omega (arith, common-ne x y a b (eqb-false x y f))))
+
+-- one of them is used up: the lengths decide
+pub before-over : (a b : List ℕ) → (length a ≤ common a b) ⊎ (length b ≤ common a b) → ltb (length a) (length b) ≡ before a b
+before-over a b s =
+    let w = common-within a b in
+    byBool (ltb (length a) (length b))
+    (λ t. let l = ltb-true (length a) (length b) t in t ∙ sym (before-end a b (omega (arith, l, w .0)) (elim s [ inl h ↦ h | inr h ↦ omega (arith, h, l, w .0) ])))
+    (λ f. let l = ltb-false (length a) (length b) f in f ∙ sym (before-not a b (elim s [ inl h ↦ omega (arith, h, l) | inr h ↦ h ])))

@@ -60,9 +60,14 @@ word-split (suc m) n s at =
     let shift : at + 1 + m ≡ at + suc m = omega arith in
     rw (suc-add m n, word-step (m + n) s at, word-split m n s (at + 1), word-step m s at, shift, pow-succ' 256 m, mul-assoc 256 (256 ^ m) (word n s (at + suc m))) (omega arith)
 
-pub word-lt : (n : ℕ) (s : List ℕ) (at : ℕ) → ((k : ℕ) → getD s k 0 < 256) → word n s at < 256 ^ n
-word-lt zero s at h = omega (arith, word-none s at)
-word-lt (suc n) s at h = omega (arith, word-step n s at, h at, word-lt n s (at + 1) h)
+-- a word tells its bytes
+pub word-get : (n : ℕ) (s t : List ℕ) (at : ℕ) → ((k : ℕ) → getD s k 0 < 256) → ((k : ℕ) → getD t k 0 < 256) → word n s at ≡ word n t at
+    → (k : ℕ) → k < n → getD s (at + k) 0 ≡ getD t (at + k) 0
+word-get zero s t at p q e k h = absurd (omega arith)
+word-get (suc n) s t at p q e zero h = rw (add-zero at) (omega (arith, e, word-step n s at, word-step n t at, p at, q at))
+word-get (suc n) s t at p q e (suc k) h =
+    let z : at + 1 + k ≡ at + suc k = omega arith in
+    rw z at (word-get n s t (at + 1) p q (omega (arith, e, word-step n s at, word-step n t at, p at, q at)) k (omega arith))
 
 -- past the end every byte counts 0
 pub word-beyond : (n : ℕ) (s : List ℕ) (at : ℕ) → length s ≤ at → word n s at ≡ 0

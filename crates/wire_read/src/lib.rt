@@ -2,8 +2,9 @@
 // Each function is total: a byte past the end counts 0.
 ghost use mathlib.Core.Path.{_≡_};
 ghost use Prim.Native.Nat.{ℕ, _+_, _^_, _<_, _≤_};
+ghost use mathlib.Core.Logic.{_⊎_, _↔_};
 ghost use mathlib.Core.Bool.{true};
-ghost use lib.ListN.{length, getD, drop};
+ghost use lib.ListN.{length, getD};
 ghost use Rattle.wire.specs.Word.{word};
 ghost use Rattle.wire.specs.Bytes.{same, before, common};
 
@@ -34,6 +35,23 @@ fn word8_in(s: &[u8], at: usize) -> u64
     ensures { λ r. ⌜ r ≡ word 8 (now (s .entry)) at ⌝ }
 {
     word4_in(s, at) + 0x100000000 * word4_in(s, at + 4)
+}
+
+// The same by its width: 8, 4, 2 or 1.
+fn word_in(s: &[u8], at: usize, w: usize) -> u64
+    requires { ⌜ (at + w ≤ length (now s)) × ((w ≡ 8) ⊎ ((w ≡ 4) ⊎ ((w ≡ 2) ⊎ (w ≡ 1)))) ⌝ }
+    ensures { λ r. ⌜ r ≡ word w (now (s .entry)) at ⌝ }
+{
+    if w == 8 {
+        return word8_in(s, at);
+    }
+    if w == 4 {
+        return word4_in(s, at);
+    }
+    if w == 2 {
+        return word2_in(s, at);
+    }
+    wide(s[at])
 }
 
 fn byte_at(s: &[u8], at: usize) -> u64
@@ -81,53 +99,62 @@ pub fn word8_at(s: &[u8], at: usize) -> u64
     word4_at(s, at) + 0x100000000 * word4_at(s, at + 4)
 }
 
-// Whether the 16 bytes at i are the same: a flag and no way out of the loop, so one vector compare.
-fn block_same(a: &[u8], b: &[u8], i: usize) -> bool
-    requires { ⌜ (i + 16 ≤ length (now a)) × (i + 16 ≤ length (now b)) ⌝ }
-    ensures { λ r. ⌜ (r ≡ true → (k : ℕ) → k < 16 → getD (now (a .entry)) (i + k) 0 ≡ getD (now (b .entry)) (i + k) 0) ⌝ }
+// The length of the shorter.
+fn shorter(a: &[u8], b: &[u8]) -> usize
+    ensures { λ r. ⌜ (r ≤ length (now (a .entry))) × (r ≤ length (now (b .entry))) × ((r ≡ length (now (a .entry))) ⊎ (r ≡ length (now (b .entry)))) ⌝ }
 {
-    let mut k = 0;
-    let mut eq = true;
-    while k < 16 {
-        if a[i + k] != b[i + k] {
-            eq = false;
-        }
-        k += 1;
+    if a.len() < b.len() {
+        return a.len();
     }
-    eq
+    b.len()
 }
 
-// Blocks in common among the first n bytes: the start that they make, a multiple of 16.
-fn common_blocks(a: &[u8], b: &[u8], n: usize) -> usize
-    requires { ⌜ (n ≤ length (now a)) × (n ≤ length (now b)) ⌝ }
-    ensures { λ r. ⌜ (r ≤ n) × (common (now (a .entry)) (now (b .entry)) ≡ r + common (drop r (now (a .entry))) (drop r (now (b .entry)))) ⌝ }
+// Whether the w bytes at i are the same.
+fn word_same(a: &[u8], b: &[u8], i: usize, w: usize) -> bool
+    requires { ⌜ (i + w ≤ length (now a)) × (i + w ≤ length (now b)) × ((w ≡ 8) ⊎ ((w ≡ 4) ⊎ ((w ≡ 2) ⊎ (w ≡ 1)))) ⌝ }
+    ensures { λ r. ⌜ (r ≡ true) ↔ ((k : ℕ) → k < w → getD (now (a .entry)) (i + k) 0 ≡ getD (now (b .entry)) (i + k) 0) ⌝ }
+{
+    word_in(a, i, w) == word_in(b, i, w)
+}
+
+// The common start of a and b by words of 8, n being the length of the shorter: fewer than 8 of its bytes are left behind the answer.
+fn common_words(a: &[u8], b: &[u8], n: usize) -> usize
+    requires { ⌜ (n ≤ length (now a)) × (n ≤ length (now b)) × (common (now a) (now b) ≤ n) ⌝ }
+    ensures { λ r. ⌜ (r ≤ common (now (a .entry)) (now (b .entry))) × (common (now (a .entry)) (now (b .entry)) < r + 8) ⌝ }
 {
     let mut i = 0;
-    while 16 <= n - i {
-        if !block_same(a, b, i) {
+    while 8 <= n - i {
+        if !word_same(a, b, i, 8) {
             return i;
         }
-        i += 16;
+        i += 8;
     }
     i
 }
 
-// The length of the common start of `a` and `b`: blocks, then bytes, up to the first difference.
+// One word more, if it is the same, where fewer than twice its w bytes are left behind the first i: fewer than w are left behind the answer.
+fn common_half(a: &[u8], b: &[u8], n: usize, i: usize, w: usize) -> usize
+    requires { ⌜ (n ≤ length (now a)) × (n ≤ length (now b)) × (common (now a) (now b) ≤ n) ⌝ }
+    requires { ⌜ (i ≤ common (now a) (now b)) × (common (now a) (now b) < i + (w + w)) × ((w ≡ 8) ⊎ ((w ≡ 4) ⊎ ((w ≡ 2) ⊎ (w ≡ 1)))) ⌝ }
+    ensures { λ r. ⌜ (r ≤ common (now (a .entry)) (now (b .entry))) × (common (now (a .entry)) (now (b .entry)) < r + w) ⌝ }
+{
+    if w <= n - i {
+        if word_same(a, b, i, w) {
+            return i + w;
+        }
+    }
+    i
+}
+
+// The length of the common start of `a` and `b`: words of 8, and then one each of 4, 2 and 1.
 pub fn common_prefix(a: &[u8], b: &[u8]) -> usize
     ensures { λ r. ⌜ r ≡ common (now (a .entry)) (now (b .entry)) ⌝ }
 {
-    let mut n = a.len();
-    if b.len() < n {
-        n = b.len();
-    }
-    let mut i = common_blocks(a, b, n);
-    while i < n {
-        if a[i] != b[i] {
-            return i;
-        }
-        i += 1;
-    }
-    i
+    let n = shorter(a, b);
+    let in8 = common_words(a, b, n);
+    let in4 = common_half(a, b, n, in8, 4);
+    let in2 = common_half(a, b, n, in4, 2);
+    common_half(a, b, n, in2, 1)
 }
 
 // Whether `a` and `b` are the same bytes.
@@ -145,11 +172,10 @@ pub fn comes_before(a: &[u8], b: &[u8]) -> bool
     ensures { λ r. ⌜ r ≡ before (now (a .entry)) (now (b .entry)) ⌝ }
 {
     let n = common_prefix(a, b);
-    if n < b.len() {
-        if n < a.len() {
+    if n < a.len() {
+        if n < b.len() {
             return a[n] < b[n];
         }
-        return true;
     }
-    false
+    a.len() < b.len()
 }

@@ -1,7 +1,7 @@
-use mathlib.Core.Path.{sym}
+use mathlib.Core.Logic.{inl, inr, ⊎-elim}
 use native.Mathlib.Omega.{arith}
-use Rattle.wire.proofs.ByteLaws.{before-in, before-end, before-not}
 use borrow.Author.Needs.{needs}
+use Rattle.wire.proofs.ByteLaws.{before-in, before-over}
 use Rattle.wire_read.proofs.comes_before.Statement.{statement}
 use Rattle.wire_read.proofs.comes_before.Tie as tie
 
@@ -20,10 +20,10 @@ returns c =
     rw (c .before .before .before .before .common-prefix .ensures) (before-in (a .a .now) (a .b .now) (omega arith) (omega arith))
 
 returns-2 : tie.Need-returns-2
-returns-2 c = let a = c .before .before .before .before .before .args in sym (before-end (a .a .now) (a .b .now) (omega arith) (omega arith))
-
-returns-3 : tie.Need-returns-3
-returns-3 c = let a = c .before .before .before .before .args in sym (before-not (a .a .now) (a .b .now) (omega arith))
+returns-2 c =
+    let a = c .before .before .before .before .args in
+    let e = c .before .common-prefix .ensures in
+    before-over (a .a .now) (a .b .now) (⊎-elim (λ w. inr (omega arith)) (λ w. inl (omega arith)) (c .if1 .came))
 
 pub comes-before-spec : {M : Type 1} → statement M
 comes-before-spec =
@@ -33,5 +33,4 @@ comes-before-spec =
     shared-slice-read-result
     shared-slice-read-result-2
     returns
-    returns-2
-    returns-3)
+    returns-2)

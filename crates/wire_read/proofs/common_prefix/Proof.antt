@@ -1,73 +1,46 @@
-use Prim.Native.Nat.{_≤_, _-_, _+_}
-use mathlib.Core.Path.{_≡_}
-use mathlib.Core.Logic.{_⊎_, inl, inr, ⊎-elim}
-use native.Mathlib.Omega.{arith}
-use lib.ListN.{length, drop}
-use Rattle.wire.specs.Bytes.{common}
-use Rattle.wire.proofs.ByteLaws.{common-more, common-stop, common-end}
+use mathlib.Core.Path.{refl}
+use mathlib.Core.Logic.{inl, inr}
+use borrow.Author.Needs.{needs}
+use Rattle.wire.proofs.ByteLaws.{common-shorter}
 use Rattle.wire_read.proofs.common_prefix.Statement.{statement}
 use Rattle.wire_read.proofs.common_prefix.Tie as tie
 
-abbrev Inv-loop : tie.InvT-loop
-Inv-loop a b n i₀ i = (i ≤ n) × ((n ≤ length a) × ((n ≤ length b) × (((n ≡ length a) ⊎ (n ≡ length b)) × (common a b ≡ i + common (drop i a) (drop i b)))))
+shorter-requires : tie.Need-shorter-requires
+shorter-requires c κs = search needs
 
-abbrev μ-loop : tie.MeasureT-loop
-μ-loop a b n i₀ i = n - i
+common-words-requires : tie.Need-common-words-requires
+common-words-requires c κs =
+    let n = c .shorter .ensures in
+    (n .0, n .1, common-shorter _ _ _ (n .2))
 
-common-blocks-requires : tie.Need-common-blocks-requires Inv-loop μ-loop
-common-blocks-requires c κs = ⊎-elim (λ w. (omega arith, omega arith)) (λ w. (omega arith, omega arith)) (c .if1 .came)
+common-half-requires : tie.Need-common-half-requires
+common-half-requires c κs =
+    let n = c .before .shorter .ensures in
+    let e = c .common-words .ensures in
+    ((n .0, n .1, common-shorter _ _ _ (n .2)), (e .0, e .1, inr (inl refl)))
 
-loop-holds : tie.Need-loop-holds Inv-loop μ-loop
-loop-holds c =
-    let e = c .common-blocks .ensures in
-    ⊎-elim
-    (λ w. (e .0, (omega arith, (omega arith, (inr (omega arith), e .1)))))
-    (λ w. (e .0, (omega arith, (omega arith, (inl (omega arith), e .1)))))
-    (c .before .if1 .came)
+common-half-requires-2 : tie.Need-common-half-requires-2
+common-half-requires-2 c κs =
+    let n = c .before .before .shorter .ensures in
+    let e = c .common-half .ensures in
+    ((n .0, n .1, common-shorter _ _ _ (n .2)), (e .0, e .1, inr (inr (inl refl))))
 
-shared-slice-read-if2 : tie.Need-shared-slice-read-if2 Inv-loop μ-loop
-shared-slice-read-if2 c = omega arith
+common-half-requires-3 : tie.Need-common-half-requires-3
+common-half-requires-3 c κs =
+    let n = c .before .before .before .shorter .ensures in
+    let e = c .common-half2 .ensures in
+    ((n .0, n .1, common-shorter _ _ _ (n .2)), (e .0, e .1, inr (inr (inr refl))))
 
-shared-slice-read-if2-2 : tie.Need-shared-slice-read-if2-2 Inv-loop μ-loop
-shared-slice-read-if2-2 c = omega arith
-
-returns : tie.Need-returns Inv-loop μ-loop
-returns c =
-    let a = c .before .before .before .before .before .before .before .before .before .args in
-    let l = c .before .before .before .before .loop in
-    common-stop (a .a .now) (a .b .now) (l .i) (omega arith) (omega arith) (l .inv .1 .1 .1 .1) (c .if2 .taken)
-
-add-i : tie.Need-add-i Inv-loop μ-loop
-add-i c = omega arith
-
-loop-less : tie.Need-loop-less Inv-loop μ-loop
-loop-less c = omega arith
-
-loop-again : tie.Need-loop-again Inv-loop μ-loop
-loop-again c =
-    let a = c .before .before .before .before .before .before .before .before .before .args in
-    let l = c .before .before .before .before .loop in
-    let e = common-more (a .a .now) (a .b .now) (l .i) (omega arith) (omega arith) (l .inv .1 .1 .1 .1) (c .if2 .left) in
-    (omega arith, (l .inv .1 .0, (l .inv .1 .1 .0, (l .inv .1 .1 .1 .0, e))))
-
-returns-2 : tie.Need-returns-2 Inv-loop μ-loop
-returns-2 c =
-    let a = c .before .before .before .before .before .before .args in
-    let l = c .before .loop in
-    common-end (a .a .now) (a .b .now) _ (l .i) (l .inv .1 .1 .1 .0) (c .loop-test .left) (l .inv .1 .1 .1 .1)
+returns : tie.Need-returns
+returns c = search needs
 
 pub common-prefix-spec : {M : Type 1} → statement M
 common-prefix-spec =
     tie.close
     (tie.spec
-    Inv-loop
-    μ-loop
-    common-blocks-requires
-    loop-holds
-    shared-slice-read-if2
-    shared-slice-read-if2-2
-    returns
-    add-i
-    loop-less
-    loop-again
-    returns-2)
+    shorter-requires
+    common-words-requires
+    common-half-requires
+    common-half-requires-2
+    common-half-requires-3
+    returns)

@@ -11,4 +11,6 @@ unfolding computing.words
 long-comparisons-spec = tie.close (tie.spec
     (λ c. refl) (λ c. refl) (λ c κs. (refl, refl, refl))
     (λ c. refl) (λ c. refl) (λ c κs. (refl, refl, refl))
+    (λ c. refl) (λ c. refl) (λ c κs. (refl, refl, refl))
+    (λ c. refl) (λ c. refl) (λ c κs. (refl, refl, refl))
     (λ c. search needs))

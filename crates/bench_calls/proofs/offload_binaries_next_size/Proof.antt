@@ -1,7 +1,7 @@
 use mathlib.Core.Path.{ap}
 use borrow.Author.Needs.{needs}
-use Rattle.offload_binaries_bench.proofs.offload_binaries_next_size.Statement.{statement}
-use Rattle.offload_binaries_bench.proofs.offload_binaries_next_size.Tie as tie
+use Rattle.bench_calls.proofs.offload_binaries_next_size.Statement.{statement}
+use Rattle.bench_calls.proofs.offload_binaries_next_size.Tie as tie
 
 next-at-requires : tie.Need-next-at-requires
 next-at-requires c κs = search needs

@@ -1,7 +1,16 @@
-// The reader as a C call, for `make bench`: include/offload.h has none.
+// What `make bench` times and include/offload.h does not have, as C calls.
 use offload_binary::Cursor;
 ghost use mathlib.Core.Path.{_≡_};
+ghost use Rattle.wire.specs.Bytes.{before};
 ghost use Rattle.offload_binary.specs.Reader.{next};
+
+// Whether `a` stands before `b` in byte order, a prefix first.
+#[no_mangle]
+pub extern "C" fn offload_comes_before(a: &[u8], b: &[u8]) -> bool
+    ensures { λ r. ⌜ r ≡ before (now (a .entry)) (now (b .entry)) ⌝ }
+{
+    wire_read::comes_before(a, b)
+}
 
 // The size of the binary that a reader hands back next, or 0.
 #[no_mangle]
