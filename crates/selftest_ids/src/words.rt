@@ -37,6 +37,9 @@ pub(crate) fn comparisons() {
     expect_compared(b"", b"", 0, true, false);
     expect_compared(b"xnack", b"xnack+", 5, false, true);
     expect_compared(b"\xff", b"\x7f", 0, false, false);
+    // a byte that is there and 0 is not the end
+    expect_compared(b"x", b"x\0", 1, false, true);
+    expect_compared(b"x\0\0\0\0\0\0\0\0", b"x", 1, false, false);
 }
 
 // Longer than a word of 8 bytes: where in a word the first difference is, and that it alone decides.

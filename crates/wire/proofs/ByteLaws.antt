@@ -115,10 +115,6 @@ common-within (x ∷ a) [] = (omega arith, omega arith)
 common-within (x ∷ a) (y ∷ b) = let w = common-within a b in
     cond-ind (λ r. (r ≤ suc (length a)) × (r ≤ suc (length b))) (eqb x y) (suc (common a b)) 0 (omega (arith, w .0), omega (arith, w .1)) (omega arith, omega arith)
 
-pub common-shorter : (a b : List ℕ) (n : ℕ) → (n ≡ length a) ⊎ (n ≡ length b) → common a b ≤ n
-common-shorter a b n (inl e) = omega (arith, common-within a b .0, e)
-common-shorter a b n (inr e) = omega (arith, common-within a b .1, e)
-
 common-nil : (b : List ℕ) → common [] b ≡ 0
 unfolding common
 common-nil b = refl

@@ -53,6 +53,10 @@ word-none s at = refl
 pub word-byte : (s : List ℕ) (at : ℕ) → word 1 s at ≡ getD s at 0
 word-byte s at = omega (arith, word-step 0 s at, word-none s (at + 1))
 
+pub word-lt : (n : ℕ) (s : List ℕ) (at : ℕ) → ((k : ℕ) → getD s k 0 < 256) → word n s at < 256 ^ n
+word-lt zero s at h = omega (arith, word-none s at)
+word-lt (suc n) s at h = omega (arith, word-step n s at, h at, word-lt n s (at + 1) h)
+
 -- a word of m + n bytes is one of m and one of n
 pub word-split : (m n : ℕ) (s : List ℕ) (at : ℕ) → word (m + n) s at ≡ word m s at + 256 ^ m * word n s (at + m)
 word-split zero n s at = rw (zero-add n, add-zero at) (omega (arith, word-none s at))

@@ -1,12 +1,13 @@
 // Bytes read: little-endian words, the common start of two byte strings, equality and order.
 // Each function is total: a byte past the end counts 0.
 ghost use mathlib.Core.Path.{_≡_};
-ghost use Prim.Native.Nat.{ℕ, _+_, _^_, _<_, _≤_};
+ghost use Prim.Native.Nat.{ℕ, _+_, _-_, _^_, _<_, _≤_};
 ghost use mathlib.Core.Logic.{_⊎_, _↔_};
 ghost use mathlib.Core.Bool.{true};
 ghost use lib.ListN.{length, getD};
 ghost use Rattle.wire.specs.Word.{word};
 ghost use Rattle.wire.specs.Bytes.{same, before, common};
+ghost use Rattle.wire_read.specs.BigEndian.{bigWord, Swapped};
 
 fn wide(x: u8) -> u64
     ensures { λ r. ⌜ (r ≡ x) × (r < 256) ⌝ }
@@ -99,9 +100,39 @@ pub fn word8_at(s: &[u8], at: usize) -> u64
     word4_at(s, at) + 0x100000000 * word4_at(s, at + 4)
 }
 
-// The length of the shorter.
+// A word with its bytes in the other order: each width swaps its halves' bytes, and the halves. All of it compiles to one instruction.
+
+fn swap2(x: u64) -> u64
+    requires { ⌜ x < 256 ^ 2 ⌝ }
+    ensures { λ r. ⌜ (r < 256 ^ 2) × Swapped 2 x r ⌝ }
+{
+    256 * (x % 256) + x / 256
+}
+
+fn swap4(x: u64) -> u64
+    requires { ⌜ x < 256 ^ 4 ⌝ }
+    ensures { λ r. ⌜ (r < 256 ^ 4) × Swapped 4 x r ⌝ }
+{
+    0x10000 * swap2(x % 0x10000) + swap2(x / 0x10000)
+}
+
+fn swap8(x: u64) -> u64
+    ensures { λ r. ⌜ Swapped 8 x r ⌝ }
+{
+    0x100000000 * swap4(x % 0x100000000) + swap4(x / 0x100000000)
+}
+
+// The 8 bytes at `at`, the first the greatest.
+fn big8_at(s: &[u8], at: usize) -> u64
+    ensures { λ r. ⌜ r ≡ bigWord 8 (now (s .entry)) at ⌝ }
+{
+    swap8(word8_at(s, at))
+}
+
+// The length of the shorter, which bounds what they have in common.
 fn shorter(a: &[u8], b: &[u8]) -> usize
-    ensures { λ r. ⌜ (r ≤ length (now (a .entry))) × (r ≤ length (now (b .entry))) × ((r ≡ length (now (a .entry))) ⊎ (r ≡ length (now (b .entry)))) ⌝ }
+    ensures { λ r. ⌜ (r ≤ length (now (a .entry))) × (r ≤ length (now (b .entry))) × (common (now (a .entry)) (now (b .entry)) ≤ r) ⌝ }
+    ensures { λ r. ⌜ (r ≡ length (now (a .entry))) ⊎ (r ≡ length (now (b .entry))) ⌝ }
 {
     if a.len() < b.len() {
         return a.len();
@@ -167,15 +198,37 @@ pub fn same_bytes(a: &[u8], b: &[u8]) -> bool
     common_prefix(a, b) == a.len()
 }
 
-// Whether `a` stands before `b` in byte order, a prefix first.
+// Whether `a` stands before `b`, where nothing differs before `at`, and the first difference, if it is in both, is in the 8 bytes there.
+fn end_before(a: &[u8], b: &[u8], at: usize) -> bool
+    requires { ⌜ (at ≤ common (now a) (now b)) × (common (now a) (now b) < length (now a) → common (now a) (now b) < length (now b) → common (now a) (now b) < at + 8) ⌝ }
+    ensures { λ r. ⌜ r ≡ before (now (a .entry)) (now (b .entry)) ⌝ }
+{
+    let x = big8_at(a, at);
+    let y = big8_at(b, at);
+    if x == y {
+        return a.len() < b.len();
+    }
+    x < y
+}
+
+// Where the last 8 of n bytes begin; 0 if there are fewer.
+fn last_place(n: usize) -> usize
+    ensures { λ r. ⌜ r ≡ n - 8 ⌝ }
+{
+    if n < 8 {
+        return 0;
+    }
+    n - 8
+}
+
+// Whether `a` stands before `b` in byte order, a prefix first: the first word of 8 that differs decides, or else the last 8 bytes of the shorter.
 pub fn comes_before(a: &[u8], b: &[u8]) -> bool
     ensures { λ r. ⌜ r ≡ before (now (a .entry)) (now (b .entry)) ⌝ }
 {
-    let n = common_prefix(a, b);
-    if n < a.len() {
-        if n < b.len() {
-            return a[n] < b[n];
-        }
+    let n = shorter(a, b);
+    let i = common_words(a, b, n);
+    if 8 <= n - i {
+        return big8_at(a, i) < big8_at(b, i);
     }
-    a.len() < b.len()
+    end_before(a, b, last_place(n))
 }

@@ -12,4 +12,6 @@ comparisons-spec = tie.close (tie.spec
     (λ c. refl) (λ c. refl) (λ c κs. (refl, refl, refl))
     (λ c. refl) (λ c. refl) (λ c κs. (refl, refl, refl))
     (λ c. refl) (λ c. refl) (λ c κs. (refl, refl, refl))
+    (λ c. refl) (λ c. refl) (λ c κs. (refl, refl, refl))
+    (λ c. refl) (λ c. refl) (λ c κs. (refl, refl, refl))
     (λ c. search needs))
