@@ -14,7 +14,7 @@ static const uint8_t magic[24] = "__CLANG_OFFLOAD_BUNDLE__";
 /* Kinds as they are compared: hip and hipv4 are one. */
 enum kind { NO_KIND, HOST, HIP, OPENMP };
 
-/* An entry ID in canonical form: the target (six fields) and after it the features. The hashes are of the kind and of the text after it. */
+/* An entry ID in canonical form: the target (kind to processor) and after it the features. The hashes are of the kind and of the text after it. */
 struct id {
     const uint8_t *text;
     uint32_t length;
@@ -50,17 +50,20 @@ static uint64_t word(const uint8_t *at) {
 }
 
 /* Classes of bytes. */
-enum { FIELD = 1, NAME = 2 };
+enum { FIELD = 1, NAME = 2, DASH = 4 };
 static const uint8_t classes[256] = {
-    ['a' ... 'z'] = FIELD | NAME, ['0' ... '9'] = FIELD | NAME, ['_'] = FIELD | NAME, ['A' ... 'Z'] = FIELD, ['.'] = FIELD,
+    ['a' ... 'z'] = FIELD | NAME, ['0' ... '9'] = FIELD | NAME, ['_'] = FIELD | NAME, ['A' ... 'Z'] = FIELD, ['.'] = FIELD, ['-'] = DASH,
 };
 
-/* Where an ID's parts lie: dashes[k] ends field k, `target` ends the last one. */
+/* Where an ID's parts lie: dashes[k] ends field k, `target` ends the last one. The processor lies between `processor` and `target`, which are equal
+ * where there is none. The canonical form has `missing` dashes more than the text, at `gap`. */
 struct parts {
     enum kind kind;
     uint32_t fields;
     uint32_t dashes[6];
     uint32_t target;
+    uint32_t processor;
+    uint32_t gap, missing;
     uint32_t features;
     struct feature {
         uint32_t start, length; /* name and sign */
@@ -82,18 +85,20 @@ static enum kind read_kind(const uint8_t *kind, uint32_t length) {
     return NO_KIND;
 }
 
-/* The fields: 4 to 6, the first a kind and the next three not empty. */
+/* The fields: four or more, the first a kind and the next three not empty. The sixth runs on, dashes included. */
 static int read_target(const uint8_t *id, uint32_t length, struct parts *parts) {
     uint32_t at = 0, fields = 0;
-    for (; at < length; at++) {
+    for (; at < length && fields < 5; at++) {
         if (classes[id[at]] & FIELD)
             continue;
-        if (id[at] == ':')
+        if (id[at] != '-')
             break;
-        if (id[at] != '-' || fields == 5)
-            return 0;
         parts->dashes[fields++] = at;
     }
+    while (at < length && classes[id[at]] & (FIELD | DASH))
+        at++;
+    if (at < length && id[at] != ':')
+        return 0;
     parts->target = at;
     parts->dashes[fields++] = at;
     parts->fields = fields;
@@ -101,6 +106,25 @@ static int read_target(const uint8_t *id, uint32_t length, struct parts *parts) 
     if (fields < 4 || parts->kind == NO_KIND)
         return 0;
     return parts->dashes[1] > parts->dashes[0] + 1 && parts->dashes[2] > parts->dashes[1] + 1 && parts->dashes[3] > parts->dashes[2] + 1;
+}
+
+/* Whether a processor starts with the fifth field. */
+static int starts_processor(const uint8_t *field, uint32_t length) {
+    return length >= 3 && (memcmp(field, "gfx", 3) == 0 || memcmp(field, "sm_", 3) == 0);
+}
+
+/* The processor, which neither begins nor ends with a dash: from the fifth field on, else from the sixth. */
+static int read_processor(const uint8_t *id, struct parts *parts) {
+    uint32_t fifth = parts->dashes[3] + 1;
+    if (parts->fields > 4 && starts_processor(id + fifth, parts->target - fifth)) {
+        parts->processor = parts->gap = fifth;
+        parts->missing = 1;
+    } else {
+        parts->processor = parts->fields == 6 ? parts->dashes[4] + 1 : parts->target;
+        parts->gap = parts->target;
+        parts->missing = 6 - parts->fields;
+    }
+    return parts->processor == parts->target || (id[parts->processor] != '-' && id[parts->target - 1] != '-');
 }
 
 /* Below 0, 0 or above 0: the byte order of two features' names. */
@@ -146,24 +170,6 @@ static int read_features(const uint8_t *id, uint32_t length, struct parts *parts
     return 1;
 }
 
-/* Whether the fifth of five fields is a processor. */
-static int is_processor(const uint8_t *field, uint32_t length) {
-    return length >= 3 && (memcmp(field, "gfx", 3) == 0 || memcmp(field, "sm_", 3) == 0);
-}
-
-/* Where the canonical form differs from the text: `at`, where a dash or two are put in. Whether there is a processor. */
-static int place_dashes(const uint8_t *id, const struct parts *parts, uint32_t *at, uint32_t *dashes) {
-    uint32_t fifth = parts->dashes[3] + 1;
-    *dashes = 6 - parts->fields;
-    *at = parts->target;
-    if (parts->fields == 6)
-        return parts->target > parts->dashes[4] + 1;
-    if (parts->fields == 4 || !is_processor(id + fifth, parts->target - fifth))
-        return 0;
-    *at = fifth;
-    return 1;
-}
-
 static uint64_t mix(uint64_t hash, uint64_t word) {
     hash = (hash ^ word) * 0x9E3779B97F4A7C15;
     return hash ^ hash >> 32;
@@ -177,12 +183,12 @@ static uint64_t hash_from(uint64_t hash, const uint8_t *text, uint32_t at, uint3
 }
 
 /* Writes the target with its dashes, and the features in order. */
-static void write_canonical(const uint8_t *id, const struct parts *parts, uint32_t at, uint32_t dashes, uint8_t *out) {
+static void write_canonical(const uint8_t *id, const struct parts *parts, uint8_t *out) {
     uint32_t k;
-    memcpy(out, id, at);
-    memset(out + at, '-', dashes);
-    memcpy(out + at + dashes, id + at, parts->target - at);
-    out += parts->target + dashes;
+    memcpy(out, id, parts->gap);
+    memset(out + parts->gap, '-', parts->missing);
+    memcpy(out + parts->gap + parts->missing, id + parts->gap, parts->target - parts->gap);
+    out += parts->target + parts->missing;
     for (k = 0; k < parts->features; k++) {
         *out++ = ':';
         memcpy(out, id + parts->feature[k].start, parts->feature[k].length);
@@ -193,20 +199,17 @@ static void write_canonical(const uint8_t *id, const struct parts *parts, uint32
 /* Reads an ID, with room for its canonical form. 0 if it breaks the rules. */
 static int read_id(const uint8_t *id, uint32_t length, uint8_t *scratch, struct id *read) {
     struct parts parts;
-    uint32_t at, dashes;
-    int processor;
-    if (!read_target(id, length, &parts) || !read_features(id, length, &parts))
+    if (!read_target(id, length, &parts) || !read_processor(id, &parts) || !read_features(id, length, &parts))
         return 0;
-    processor = place_dashes(id, &parts, &at, &dashes);
-    if ((parts.features > 0 && !processor) || length + dashes > ID_LIMIT)
+    if ((parts.features > 0 && parts.processor == parts.target) || length + parts.missing > ID_LIMIT)
         return 0;
     read->text = id;
-    if (dashes > 0 || !parts.sorted) {
-        write_canonical(id, &parts, at, dashes, scratch);
+    if (parts.missing > 0 || !parts.sorted) {
+        write_canonical(id, &parts, scratch);
         read->text = scratch;
     }
-    read->length = length + dashes;
-    read->target = parts.target + dashes;
+    read->length = length + parts.missing;
+    read->target = parts.target + parts.missing;
     read->kind = parts.kind;
     read->kind_length = parts.dashes[0];
     read->target_hash = hash_from(parts.kind, read->text, read->kind_length, read->target);

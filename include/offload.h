@@ -46,12 +46,12 @@ extern "C" {
 /* Entry IDs, and device names, which are written like them (no ending zero):
  *
  *   id        = head { ":" feature }, with at most 8 features; the ID and its canonical form have 1 to 256 bytes
- *   head      = kind "-" arch "-" vendor "-" system [ "-" fifth | "-" environment "-" processor ]
- *   fifth     = processor, if it begins with gfx or sm_ (the environment is then empty)
- *             | environment, if it does not (there is then no processor)
+ *   head      = kind "-" arch "-" vendor "-" system [ "-" rest ]
+ *   rest      = processor, if it begins with gfx or sm_ (the environment is then empty)
+ *             | environment [ "-" processor ], if it does not
  *   kind      = "host" | "hip" | "hipv4" | "openmp"
- *   arch, vendor, system   = one or more of A-Z a-z 0-9 _ .
- *   environment, processor = zero or more of these; an empty processor is no processor
+ *   arch, vendor, system = one or more of A-Z a-z 0-9 . _; environment = zero or more of these
+ *   processor = zero or more of these and "-", as in gfx9-generic, no "-" at either end; an empty one is no processor
  *   feature   = name "+" (on) | name "-" (off), only where there is a processor
  *   name      = one or more of a-z 0-9 _, and no name twice in an ID
  *   canonical = kind-arch-vendor-system-environment-processor, then each ":" feature in byte order of the names
@@ -196,7 +196,7 @@ OFFLOAD_INLINE struct offload_pick_answer offload_pick(const uint8_t *bundle, si
  * length: how many bytes are written at the start of out, at least 32; what lies beyond is unchanged.
  *
  * Room: a normal form takes 32 bytes and, for each entry, 24, the length of its canonical ID and the size of its image.
- * A canonical ID is longer than the ID by two dashes at most, so bundle_length + 2 * OFFLOAD_ENTRIES is enough unless
+ * A canonical ID is longer than the ID by two hyphens at most, so bundle_length + 2 * OFFLOAD_ENTRIES is enough unless
  * entries share one image. Always enough are 32 and, for each entry as offload_entry gives it, 26 + id_length + size;
  * or, without looking at entries, the lesser of OFFLOAD_LIMIT and OFFLOAD_ENTRIES * (bundle_length + 2). */
 uint64_t offload_normalise_number(const uint8_t *bundle, size_t bundle_length, uint8_t *out, size_t out_length);

@@ -1,14 +1,14 @@
 #!/usr/bin/env bash
 # Makes images/, bundles/, binaries/ and refused/ again, byte for byte, with Debian's clang-19, clang-tools-19 and lld-19 (1:19.1.7-3~deb12u1), and
-# bundles/five-fields.bundle with Debian's clang-tools-14 (1:14.0.6-12). The files are committed: no test runs this.
+# bundles/five-fields.bundle and bundles/generic-short.bundle with Debian's clang-tools-14 (1:14.0.6-12). The files are committed: no test runs this.
 set -eu
 cd "$(dirname "$0")"
 rm -rf images bundles binaries refused
 mkdir images bundles binaries refused
 
-# Device images. amd NAME TARGET-ID: a code object of the kernel for that processor.
+# Device images. amd NAME TARGET-ID OPTION...: a code object of the kernel for that processor.
 amd() {
-  clang-19 --target=amdgcn-amd-amdhsa -mcpu="$2" -nogpulib -O2 -c source/add.cl -o "images/$1.o"
+  clang-19 --target=amdgcn-amd-amdhsa -mcpu="$2" "${@:3}" -nogpulib -O2 -c source/add.cl -o "images/$1.o"
 }
 amd gfx906 gfx906
 amd gfx906-sramecc+xnack+ gfx906:sramecc+:xnack+
@@ -18,6 +18,11 @@ amd gfx906-sramecc-xnack- gfx906:sramecc-:xnack-
 amd gfx90a-sramecc+xnack+ gfx90a:sramecc+:xnack+
 amd gfx90a-sramecc+xnack- gfx90a:sramecc+:xnack-
 amd gfx1030 gfx1030
+# Generic processors need code objects of version 6; clang warns that these are still in development.
+amd gfx9-generic-xnack+ gfx9-generic:xnack+ -mcode-object-version=6
+amd gfx9-generic-xnack- gfx9-generic:xnack- -mcode-object-version=6
+amd gfx10-3-generic gfx10-3-generic -mcode-object-version=6
+amd gfx11-generic gfx11-generic -mcode-object-version=6
 clang-19 --target=nvptx64-nvidia-cuda -march=sm_70 -nogpulib -O2 -S source/scale.c -o images/sm_70.s
 clang-19 --target=nvptx64-nvidia-cuda -march=sm_80 -nogpulib -O2 -S source/scale.c -o images/sm_80.s
 clang-19 --target=amdgcn-amd-amdhsa -mcpu=gfx906 -nogpulib -O2 -c -emit-llvm source/add.cl -o images/gfx906.bc
@@ -74,6 +79,21 @@ clang-offload-bundler-14 -type=o \
   -targets=host-x86_64-unknown-linux-gnu,hip-amdgcn-amd-amdhsa-gfx906:sramecc-:xnack+,hip-amdgcn-amd-amdhsa-gfx906:sramecc+:xnack+,openmp-amdgcn-amd-amdhsa-gfx1030 \
   -inputs=/dev/null,images/gfx906-sramecc-xnack+.o,images/gfx906-sramecc+xnack+.o,images/gfx1030.o \
   -outputs=bundles/five-fields.bundle
+
+clang-offload-bundler-19 -type=o \
+  -targets=host-x86_64-unknown-linux-gnu,hip-amdgcn-amd-amdhsa--gfx9-generic:xnack+,hip-amdgcn-amd-amdhsa--gfx9-generic:xnack-,hip-amdgcn-amd-amdhsa--gfx10-3-generic,hip-amdgcn-amd-amdhsa--gfx11-generic,hip-amdgcn-amd-amdhsa--gfx906 \
+  -input=/dev/null \
+  -input=images/gfx9-generic-xnack+.o \
+  -input=images/gfx9-generic-xnack-.o \
+  -input=images/gfx10-3-generic.o \
+  -input=images/gfx11-generic.o \
+  -input=images/gfx906.o \
+  -output=bundles/generic.bundle
+
+clang-offload-bundler-14 -type=o \
+  -targets=host-x86_64-unknown-linux-gnu,hip-amdgcn-amd-amdhsa-gfx11-generic,hip-amdgcn-amd-amdhsa-gfx9-generic:xnack-,hip-amdgcn-amd-amdhsa-gfx9-generic:xnack+,hip-amdgcn-amd-amdhsa-gfx10-3-generic \
+  -inputs=/dev/null,images/gfx11-generic.o,images/gfx9-generic-xnack-.o,images/gfx9-generic-xnack+.o,images/gfx10-3-generic.o \
+  -outputs=bundles/generic-short.bundle
 
 # A bundle that is refused: the size of the host's image, 2692 in the bytes from 40 on, is made one more, so that it takes in the first byte of the other.
 clang-offload-bundler-19 -type=bc \

@@ -241,6 +241,60 @@ static void kinds(void) {
     check("two kinds", bundle, make_two(bundle, hip, "ONE..", "openmp-a-b-c--gfx906", "TWO.."), OFFLOAD_OK, 0, 2);
 }
 
+/* An ID that keeps the rules, and its canonical form: each as an entry, picked by the other as a device name. */
+static void reads(const char *id, const char *canonical) {
+    static uint8_t bundle[SPACE], normal[SPACE];
+    size_t length = make_one(bundle, id), written = make_one(normal, canonical);
+    check(id, bundle, length, OFFLOAD_OK, 0, 1);
+    entry(id, bundle, length, 0, OFFLOAD_OK, 0, length - IMAGE, IMAGE, 56, strlen(id));
+    pick(id, bundle, length, canonical, OFFLOAD_OK, 0, 0, length - IMAGE, IMAGE);
+    pick(id, normal, written, id, OFFLOAD_OK, 0, 0, written - IMAGE, IMAGE);
+    normalise(id, bundle, length, SPACE, OFFLOAD_OK, 0, normal, written);
+}
+
+/* A text that is no ID: as an entry, and as a device name. */
+static void refuses(const char *id) {
+    static uint8_t bundle[SPACE];
+    size_t length = make_two(bundle, host, "HOST.", id, "CARD.");
+    check(id, bundle, length, OFFLOAD_ID, 1, 0);
+    entry(id, bundle, length, 0, OFFLOAD_ID, 1, 0, 0, 0, 0);
+    pick(id, bundle, length, host, OFFLOAD_ID, 1, 0, 0, 0);
+    normalise(id, bundle, length, SPACE, OFFLOAD_ID, 1, bundle, 0);
+    pick(id, bundle, make_one(bundle, host), id, OFFLOAD_QUERY, 0, 0, 0, 0);
+}
+
+/* The processor starts with the fifth field or with the sixth, and runs on; no hyphen is at its ends. */
+static void processors(void) {
+    static const char *const read[][2] = {
+        {"hip-amdgcn-amd-amdhsa-gfx9-generic", "hip-amdgcn-amd-amdhsa--gfx9-generic"},
+        {"hip-a-b-c-gfx9-4-generic:xnack-:sramecc+", "hip-a-b-c--gfx9-4-generic:sramecc+:xnack-"},
+        {"hip-a-b-c-gnu-gfx9-generic:xnack-", "hip-a-b-c-gnu-gfx9-generic:xnack-"},
+        {"hip-a-b-c-gfxenv-gfx906", "hip-a-b-c--gfxenv-gfx906"},
+        {"hip-a-b-c-gfx9--x", "hip-a-b-c--gfx9--x"},
+        {"hip-a-b-c-sm_90-a", "hip-a-b-c--sm_90-a"},
+        {"hip-a-b-c-gf-x-y", "hip-a-b-c-gf-x-y"},
+        {"hip-a-b-c--1-2-3-4-5-6-7-8-9", "hip-a-b-c--1-2-3-4-5-6-7-8-9"},
+        {"hip-a-b-c-gnu-", "hip-a-b-c-gnu-"},
+    };
+    static const char *const refused[] = {
+        "hip-a-b-c-gfxenv-", "hip-a-b-c-sm_70-", "hip-a-b-c-gfx9-generic-", "hip-a-b-c-gfx9-generic-:xnack-",
+        "hip-a-b-c-gnu--", "hip-a-b-c-gnu--x", "hip-a-b-c-gnu-x-", "hip-a-b-c---", "hip-a-b-c---gfx9", "hip-a-b-c-gnu-:xnack-",
+    };
+    static uint8_t bundle[SPACE];
+    const char *spelled = "hip-a-b-c-gfx9-generic:xnack-", *canonical = "hip-a-b-c--gfx9-generic:xnack-", *other = "hip-a-b-c--gfx11-generic";
+    size_t length = make_two(bundle, spelled, "ONE..", other, "TWO.."), i;
+    for (i = 0; i < sizeof read / sizeof *read; i++)
+        reads(read[i][0], read[i][1]);
+    for (i = 0; i < sizeof refused / sizeof *refused; i++)
+        refuses(refused[i]);
+    pick("a generic processor", bundle, length, canonical, OFFLOAD_OK, 0, 0, length - 2 * IMAGE, IMAGE);
+    pick("another generic processor", bundle, length, "hip-a-b-c-gfx11-generic:xnack-", OFFLOAD_OK, 0, 1, length - IMAGE, IMAGE);
+    pick("no entry's generic processor", bundle, length, "hip-a-b-c--gfx12-generic:xnack-", OFFLOAD_NONE, 0, 0, 0, 0);
+    pick("a processor without its end", bundle, length, "hip-a-b-c--gfx9:xnack-", OFFLOAD_NONE, 0, 0, 0, 0);
+    check("a generic processor in two spellings", bundle, make_two(bundle, spelled, "ONE..", canonical, "TWO.."), OFFLOAD_TWICE, 1, 0);
+    check("other features in another spelling", bundle, make_two(bundle, canonical, "ONE..", "hip-a-b-c-gfx9-generic", "TWO.."), OFFLOAD_MIXED, 1, 0);
+}
+
 /* Where images may lie, in bundles of two entries that have BODY bytes after the table. */
 
 static const char *const two_ids[2] = {"hip-a-b-c--gfx1", "hip-a-b-c--gfx2"};
@@ -429,6 +483,7 @@ static void names(void) {
 int main(void) {
     two_entries();
     kinds();
+    processors();
     two_images();
     order();
     many_images();

@@ -15,6 +15,10 @@ diff <(
   answer "$1" "$samples/driver.bundle" hip-amdgcn-amd-amdhsa--gfx1030
   answer "$1" "$samples/driver.bundle" hipv4-amdgcn-amd-amdhsa--gfx906:sramecc-:xnack+
   answer "$1" "$samples/driver.bundle" openmp-amdgcn-amd-amdhsa--gfx1030
+  answer "$1" "$samples/generic.bundle" hip-amdgcn-amd-amdhsa-gfx9-generic:xnack-
+  answer "$1" "$samples/generic-short.bundle" hip-amdgcn-amd-amdhsa--gfx11-generic
+  answer "$1" "$samples/generic.bundle" hip-amdgcn-amd-amdhsa--gfx9-generic
+  answer "$1" "$samples/generic.bundle" hip-amdgcn-amd-amdhsa-gfx9-
   answer "$1" "$damaged" hip-amdgcn-amd-amdhsa--gfx906:sramecc+:xnack-
   answer "$1" "$damaged" hip-amdgcn-amd-amdhsa--gfx906
   answer "$1" "$overlap" openmp-nvptx64-nvidia-cuda--sm_70
@@ -31,6 +35,12 @@ status 4
 3048 bytes for the card, the first is 127
 no image for this card
 status 4
+2048 bytes for the card, the first is 127
+2448 bytes for the card, the first is 127
+no image for this card
+status 4
+refused: 9 QUERY
+status 1
 refused: 6 RANGE
 status 1
 refused: 6 RANGE
@@ -44,4 +54,4 @@ status 1
 status 3
 status 3
 TEXT
-echo 'loader: 13 answers as expected'
+echo 'loader: 17 answers as expected'

@@ -8,6 +8,8 @@ samples=$top/samples
 accepted=("$samples"/bundles/*)
 cards=$samples/bundles/three-cards.bundle
 fields=$samples/bundles/five-fields.bundle
+generic=$samples/bundles/generic.bundle
+short=$samples/bundles/generic-short.bundle
 folder=$(mktemp -d)
 trap 'rm -rf "$folder"' EXIT
 mkdir "$folder/some files"
@@ -114,6 +116,8 @@ expect 0 'accepted, entries 4' '' check "$samples/bundles/aligned.bundle"
 expect 0 'accepted, entries 5' '' check "$samples/bundles/kinds.bundle"
 expect 0 'accepted, entries 1' '' check "$samples/bundles/host-only.bundle"
 expect 0 'accepted, entries 4' '' check "$fields"
+expect 0 'accepted, entries 6' '' check "$generic"
+expect 0 'accepted, entries 5' '' check "$short"
 bundle 0 >none
 expect 0 'accepted, entries 0' '' check none
 expect 0 '{"file":"none","number":0,"name":"OK","entries":0}' '' check none --json
@@ -342,6 +346,8 @@ hip-amdgcn-amd-amdhsa--gfx906
 hip-amdgcn-amd-amdhsa--gfx906:xnack+:sramecc-
 hipv4-amdgcn-amd-amdhsa--gfx90a:sramecc+:xnack-
 hip-amdgcn-amd-amdhsa--gfx1030
+hip-amdgcn-amd-amdhsa-gfx9-generic:xnack-
+hip-amdgcn-amd-amdhsa--gfx11-generic
 DEVICES
 done
 rm ./*
@@ -547,6 +553,126 @@ for name in "${gfx}1030" "${gfx/hip/hipv4}1030"; do
 done
 expect 0 'entry 2, *' '' pick "$samples/bundles/kinds.bundle" "${gfx/hip/hipv4}906"
 expect 0 'entry 1, *' '' pick "$samples/bundles/kinds.bundle" "${gfx/hip/openmp}906"
+rm ./*
+
+# Generic processors have hyphens. list shows the canonical form, and the short spelling beside it.
+expect 0 "$heading
+    0        393          0  host-x86_64-unknown-linux-gnu-
+    1        393       2048  ${gfx}9-generic:xnack+
+    2       2441       2048  ${gfx}9-generic:xnack-
+    3       4489       2256  ${gfx}10-3-generic
+    4       6745       2448  ${gfx}11-generic
+    5       9193       2032  ${gfx}906" '' list "$generic"
+expect 0 'INDEX     OFFSET       SIZE  ID                                          SPELLED
+    0        335          0  host-x86_64-unknown-linux-gnu-              host-x86_64-unknown-linux-gnu
+    1        335       2448  hip-amdgcn-amd-amdhsa--gfx11-generic        hip-amdgcn-amd-amdhsa-gfx11-generic
+    2       2783       2048  hip-amdgcn-amd-amdhsa--gfx9-generic:xnack-  hip-amdgcn-amd-amdhsa-gfx9-generic:xnack-
+    3       4831       2048  hip-amdgcn-amd-amdhsa--gfx9-generic:xnack+  hip-amdgcn-amd-amdhsa-gfx9-generic:xnack+
+    4       6879       2256  hip-amdgcn-amd-amdhsa--gfx10-3-generic      hip-amdgcn-amd-amdhsa-gfx10-3-generic' '' list "$short"
+expect 0 'written, length 9140' '' normalise "$short" -o normal
+expect 0 "$heading
+    0        340       2256  ${gfx}10-3-generic
+    1       2596       2448  ${gfx}11-generic
+    2       5044       2048  ${gfx}9-generic:xnack+
+    3       7092       2048  ${gfx}9-generic:xnack-
+    4       9140          0  host-x86_64-unknown-linux-gnu-" '' list normal
+# Both spellings of a device name get the image, from both spellings of its entry.
+for card in 9-generic:xnack+ 9-generic:xnack- 10-3-generic 11-generic; do
+  image=$samples/images/gfx${card/:/-}.o
+  for file in "$generic" "$short" normal; do
+    for name in "$gfx$card" "${gfx/--/-}$card" "${gfx/hip/hipv4}$card"; do
+      expect 0 "entry *, offset *, size $(stat -c %s "$image")" '' pick "$file" "$name" -o image
+      same image "$image"
+    done
+  done
+done
+expect 0 'entry 5, *' '' pick "$generic" "${gfx}906:sramecc+:xnack-" -o image
+same image "$samples/images/gfx906.o"
+# No generic processor stands for another, and explain names them whole.
+expect 0 "INDEX  ID                                          REASON
+    4  hip-amdgcn-amd-amdhsa--gfx11-generic        fits
+    1  hip-amdgcn-amd-amdhsa--gfx9-generic:xnack+  processor: entry gfx9-generic, device gfx11-generic
+    2  hip-amdgcn-amd-amdhsa--gfx9-generic:xnack-  processor: entry gfx9-generic, device gfx11-generic
+    3  hip-amdgcn-amd-amdhsa--gfx10-3-generic      processor: entry gfx10-3-generic, device gfx11-generic
+    5  hip-amdgcn-amd-amdhsa--gfx906               processor: entry gfx906, device gfx11-generic
+    0  host-x86_64-unknown-linux-gnu-              kind: entry host, device hip" '' explain "$generic" "${gfx/--/-}11-generic:xnack-"
+expect 4 "INDEX *
+    2  hip-amdgcn-amd-amdhsa--gfx9-generic:xnack-  feature: entry xnack-, device (not stated)
+    3  hip-amdgcn-amd-amdhsa--gfx9-generic:xnack+  feature: entry xnack+, device (not stated)
+    1  hip-amdgcn-amd-amdhsa--gfx11-generic        processor: entry gfx11-generic, device gfx9-generic
+    4  hip-amdgcn-amd-amdhsa--gfx10-3-generic      processor: entry gfx10-3-generic, device gfx9-generic
+    0 *" '' explain "$short" "${gfx}9-generic"
+expect 4 '{"index":1,"id":"hip-amdgcn-amd-amdhsa--gfx11-generic","fits":false,"reason":"processor","entry":"gfx11-generic","device":"gfx12-generic"}
+*' '' explain "$short" "${gfx}12-generic" --json
+for name in "${gfx}9-generic" "${gfx}12-generic" "${gfx}9" "${gfx}11" "${gfx/--/-}10-3" "${gfx/--/-gnu-}11-generic"; do
+  expect 4 '' 'offload: *: 10 NONE, *' pick "$generic" "$name"
+  expect 4 '' 'offload: *: 10 NONE, *' pick "$short" "$name"
+done
+expect 4 '' 'offload: *: 10 NONE, *' pick "$short" "${gfx}906"
+expect 4 '' 'offload: *: 10 NONE, *' pick "$cards" "${gfx}10-3-generic"
+expect 1 '' "$(refusal "$cards" '9 QUERY' "device \"${gfx}1030-\"")" pick "$cards" "${gfx}1030-"
+# The two spellings are one meaning; another environment or another hyphen makes two.
+one=hip-a-b-c-gfx9-generic
+two=hip-a-b-c--gfx9-generic
+bundle 0 $one:xnack+ $two:xnack- $two:xnack+ >twice
+expect 1 '' "$(refusal twice '7 TWICE' "entry 2 \"$two:xnack+\"" "It is entry 0 \"$one:xnack+\".")" check twice
+bundle 0 $two $one:xnack+ >mixed
+expect 1 '' "$(refusal mixed '8 MIXED' "entry 1 \"$one:xnack+\"" "It is entry 0 \"$two\".")" check mixed
+bundle 0 $one:xnack+ hip-a-b-c-gnu-gfx9-generic hip-a-b-c-gfx9--generic hip-a-b-c-gfx9generic hip-a-b-c-gfx9 hip-a-b-c--generic hip-a-b-c-generic >apart
+expect 0 'accepted, entries 7' '' check apart
+# Where the processor starts and ends, in an entry and in a device name.
+# reads ID CANONICAL PROCESSOR
+reads() {
+  { bundle 5 "$1" openmp-a-b-c; printf image; } >entry
+  { bundle 5 "$2" openmp-a-b-c; printf image; } >canonical
+  expect 0 'accepted, entries 2' '' check entry
+  expect 0 "{\"index\":0,*,\"id\":\"$2\"*}"$'\n*' '' list entry --json
+  expect 0 'entry 0, *' '' pick entry "$2"
+  expect 0 'entry 0, *' '' pick canonical "$1"
+  expect 0 "{\"index\":0,*,\"id\":\"$2\"}"$'\n*' '' list canonical --json
+  expect 4 "{\"index\":0,*,\"reason\":\"processor\",\"entry\":\"$3\",\"device\":\"other\"}"$'\n*' '' explain entry "${2%"$3"*}other" --json
+}
+reads hip-a-b-c-gfx9-generic hip-a-b-c--gfx9-generic gfx9-generic
+reads hip-a-b-c-gfx9-4-generic:xnack-:sramecc+ hip-a-b-c--gfx9-4-generic:sramecc+:xnack- gfx9-4-generic
+reads hip-a-b-c-gnu-gfx9-generic:xnack- hip-a-b-c-gnu-gfx9-generic:xnack- gfx9-generic
+reads hip-a-b-c-gfx9--x hip-a-b-c--gfx9--x gfx9--x
+reads hip-a-b-c-gfxenv-gfx906 hip-a-b-c--gfxenv-gfx906 gfxenv-gfx906
+reads hip-a-b-c-gfxenv hip-a-b-c--gfxenv gfxenv
+reads hip-a-b-c-sm_90-a hip-a-b-c--sm_90-a sm_90-a
+reads hip-a-b-c-sm_-x hip-a-b-c--sm_-x sm_-x
+reads hip-a-b-c-gf-gfx9 hip-a-b-c-gf-gfx9 gfx9
+reads hip-a-b-c-generic-gfx9-x hip-a-b-c-generic-gfx9-x gfx9-x
+reads hip-a-b-c-d-e-f hip-a-b-c-d-e-f e-f
+reads hip-a-b-c--1-2-3-4-5-6-7-8-9 hip-a-b-c--1-2-3-4-5-6-7-8-9 1-2-3-4-5-6-7-8-9
+reads hip-a-b-c-gnu- hip-a-b-c-gnu- ''
+reads hip-a-b-c-gnu hip-a-b-c-gnu- ''
+reads hip-a-b-gfx9-generic hip-a-b-gfx9-generic- ''
+# refuses ID
+refuses() {
+  bundle 0 openmp-a-b-c "$1" >entry
+  expect 1 '' "$(refusal entry '5 ID' "entry 1 \"$1\"")" check entry
+  expect 1 '' "$(refusal entry '5 ID' "entry 1 \"$1\"")" normalise entry -o new
+  bundle 0 openmp-a-b-c >entry
+  expect 1 '' "$(refusal entry '9 QUERY' "device \"$1\"")" pick entry "$1"
+  expect 1 '' "$(refusal entry '9 QUERY' "device \"$1\"")" explain entry "$1"
+}
+refuses hip-a-b-c-gfxenv-
+refuses hip-a-b-c-gfx9-generic-
+refuses hip-a-b-c-gfx9-generic-:xnack-
+refuses hip-a-b-c-sm_70-
+refuses hip-a-b-c-gnu--
+refuses hip-a-b-c-gnu--x
+refuses hip-a-b-c-gnu-x-
+refuses hip-a-b-c---
+refuses hip-a-b-c---gfx9
+refuses hip-a-b-c-gnu-:xnack+
+refuses hip-a-b-c-gfx9-gen+ric
+refuses hip-a-b
+# The canonical form has 256 bytes at most.
+long=hip-a-b-c-gfx9-$(printf 'x%.0s' {1..240})
+reads "$long" "${long/-gfx/--gfx}" "${long#hip-a-b-c-}"
+refuses "${long}x"
+holds apart canonical entry image mixed normal twice
 rm ./*
 
 # Standard input and standard output.

@@ -19,7 +19,8 @@ struct bytes canonical_bytes(const struct canonical *form);
 /* The fields of a canonical form, in its order. */
 enum field { KIND, ARCH, VENDOR, SYSTEM, ENVIRONMENT, PROCESSOR, FIELDS };
 
-/* A canonical form, cut: kind-arch-vendor-system-environment-processor, then its features, with a colon between two. */
+/* A canonical form, cut: kind-arch-vendor-system-environment-processor, of which only the processor may have hyphens, then its features, with a colon
+ * between two. */
 struct parts {
     struct bytes fields[FIELDS];
     struct bytes features;

@@ -61,8 +61,9 @@ pub fn jobs() {
     let table = Table::new(
         "Check, pick, entry and normalise",
         "Time of one call. Images of 2 KiB, in rising order where nothing else is said; pick and entry are for the last entry. Three kinds: host, hip\n\
-         and openmp for each of 21 processors. Hostile order: the first and the last image, then those in between, so that each has earlier ones on\n\
-         both sides. One image: all entries share it.",
+         and openmp for each of 21 processors. Generic processors: such as gfx9-4-generic, every second ID spelled without the empty\n\
+         environment. Hostile order: the first and the last image, then those in between, so that each has earlier ones on both sides. One image: all\n\
+         entries share it.",
         &["Job", "Entries", "Library", "Second program", "Plain C", "Library / plain C"],
     );
     for entries in [1, 16, 64] {
@@ -85,6 +86,9 @@ pub fn jobs() {
     let (bundle, last) = (sample::three_kinds(IMAGE), sample::three_kinds_id(sample::THREE_KINDS - 1));
     row(&table, "check of three kinds", sample::THREE_KINDS, &check(&bundle));
     row(&table, "pick of three kinds", sample::THREE_KINDS, &pick(&bundle, last.as_bytes()));
+    let (bundle, last) = (sample::generic(64, IMAGE), sample::generic_id(63));
+    row(&table, "check of generic processors", 64, &check(&bundle));
+    row(&table, "pick of generic processors", 64, &pick(&bundle, last.as_bytes()));
     for (job, place) in PLACES {
         row(&table, job, 64, &check(&sample::with_places(sample::bundle(64, IMAGE), place)));
     }

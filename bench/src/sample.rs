@@ -14,10 +14,24 @@ const PROCESSORS: [&str; 21] = [
 /// The four settings of one processor after another, for one kind after another: `hipv4`, which is compared as `hip`, has other
 /// processors than `hip`, and `openmp` has those of `hip`.
 pub fn id(entry: usize) -> String {
-    let (kind, processor, setting) = (KINDS[entry / 24], PROCESSORS[entry / 4 % 12], entry % 4);
-    let sign = |on: bool| if on { '+' } else { '-' };
-    let (sramecc, xnack) = (sign(setting < 2), sign(setting % 2 == 0));
-    format!("{kind}-amdgcn-amd-amdhsa--{processor}:sramecc{sramecc}:xnack{xnack}")
+    let (kind, processor) = (KINDS[entry / 24], PROCESSORS[entry / 4 % 12]);
+    format!("{kind}-amdgcn-amd-amdhsa--{processor}{}", features(entry))
+}
+
+/// One of four settings after another.
+fn features(entry: usize) -> &'static str {
+    [":sramecc+:xnack+", ":sramecc+:xnack-", ":sramecc-:xnack+", ":sramecc-:xnack-"][entry % 4]
+}
+
+const GENERIC: [&str; 6] =
+    ["gfx9-generic", "gfx9-4-generic", "gfx10-1-generic", "gfx10-3-generic", "gfx11-generic", "gfx12-generic"];
+
+/// The four settings of one generic processor after another, for `hip`, `openmp` and `host`; every second ID is spelled without the empty
+/// environment.
+pub fn generic_id(entry: usize) -> String {
+    let (kind, processor) = (["hip", "openmp", "host"][entry / 24], GENERIC[entry / 4 % 6]);
+    let dashes = ["--", "-"][entry % 2];
+    format!("{kind}-amdgcn-amd-amdhsa{dashes}{processor}{}", features(entry))
 }
 
 /// How many entries `host`, `hip` and `openmp` make for each of 21 processors.
@@ -64,6 +78,11 @@ pub fn with_places(mut bundle: Vec<u8>, place: impl Fn(usize) -> usize) -> Vec<u
     }
     assert_eq!(check(&bundle).number, OK);
     bundle
+}
+
+/// A bundle of so many entries with generic processors, each with an image of this size.
+pub fn generic(entries: usize, image: usize) -> Vec<u8> {
+    accepted((0..entries).map(generic_id), image)
 }
 
 /// The bundle of all entries of three kinds, each with an image of this size.

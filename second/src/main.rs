@@ -132,7 +132,7 @@ fn run(family: Box<dyn Family>, options: &'static Options) {
     if options.aims {
         print_aims(family.report());
     }
-    let whole = options.cases >= 10_000;
+    let whole = options.cases >= 20_000;
     if whole {
         require_all(family.report());
     }

@@ -126,6 +126,31 @@ pub const BUNDLES: &[BundleSample] = &[
             ("openmp-amdgcn-amd-amdhsa--gfx1030", sample!("images/gfx1030.o")),
         ],
     },
+    BundleSample {
+        name: "generic",
+        bytes: sample!("bundles/generic.bundle"),
+        as_written: true,
+        entries: &[
+            (HOST, b""),
+            ("hip-amdgcn-amd-amdhsa--gfx9-generic:xnack+", sample!("images/gfx9-generic-xnack+.o")),
+            ("hip-amdgcn-amd-amdhsa--gfx9-generic:xnack-", sample!("images/gfx9-generic-xnack-.o")),
+            ("hip-amdgcn-amd-amdhsa--gfx10-3-generic", sample!("images/gfx10-3-generic.o")),
+            ("hip-amdgcn-amd-amdhsa--gfx11-generic", sample!("images/gfx11-generic.o")),
+            ("hip-amdgcn-amd-amdhsa--gfx906", sample!("images/gfx906.o")),
+        ],
+    },
+    BundleSample {
+        name: "generic-short",
+        bytes: sample!("bundles/generic-short.bundle"),
+        as_written: false,
+        entries: &[
+            (HOST, b""),
+            ("hip-amdgcn-amd-amdhsa--gfx11-generic", sample!("images/gfx11-generic.o")),
+            ("hip-amdgcn-amd-amdhsa--gfx9-generic:xnack-", sample!("images/gfx9-generic-xnack-.o")),
+            ("hip-amdgcn-amd-amdhsa--gfx9-generic:xnack+", sample!("images/gfx9-generic-xnack+.o")),
+            ("hip-amdgcn-amd-amdhsa--gfx10-3-generic", sample!("images/gfx10-3-generic.o")),
+        ],
+    },
 ];
 
 pub const REFUSED: &[RefusedSample] =
@@ -152,6 +177,15 @@ pub const DEVICES: &[&str] = &[
     "openmp-nvptx64-nvidia-cuda-sm_70",
     "openmp-nvptx64-nvidia-cuda--sm_80",
     "openmp-nvptx64-nvidia-cuda--sm_90",
+    "hip-amdgcn-amd-amdhsa-gfx9-generic:xnack-",
+    "hip-amdgcn-amd-amdhsa--gfx9-generic:xnack+",
+    "hip-amdgcn-amd-amdhsa--gfx9-generic",
+    "hip-amdgcn-amd-amdhsa-gfx10-3-generic",
+    "hip-amdgcn-amd-amdhsa--gfx11-generic:xnack-",
+    "hipv4-amdgcn-amd-amdhsa-gfx11-generic",
+    "hip-amdgcn-amd-amdhsa-gnu-gfx11-generic",
+    "hip-amdgcn-amd-amdhsa-gfx11-",
+    "hip-amdgcn-amd-amdhsa--gfx11-generic-",
     "hip-amdgcn-amd-amdhsa--gfx906:xnack",
     "gfx906",
     "",
@@ -306,6 +340,32 @@ mod tests {
         assert_eq!(answer("openmp-amdgcn-amd-amdhsa--gfx1030"), (NONE, 0, 0, 0));
         assert_eq!(answer("host-x86_64-unknown-linux"), (OK, 0, 4096, 0));
         assert_eq!(answer("host-x86_64-unknown-linux-gnu"), (NONE, 0, 0, 0));
+    }
+
+    #[test]
+    fn bundles_of_generic_processors_are_picked_from() {
+        let index = |name: &str, device: &str| {
+            let sample = BUNDLES.iter().find(|sample| sample.name == name).unwrap();
+            let picked = pick(sample.bytes, device.as_bytes());
+            (picked.number, picked.index)
+        };
+        for dashes in ["-", "--"] {
+            for (processor, long, short) in [
+                ("gfx9-generic:xnack+", (OK, 1), (OK, 3)),
+                ("gfx9-generic:xnack-", (OK, 2), (OK, 2)),
+                ("gfx10-3-generic", (OK, 3), (OK, 4)),
+                ("gfx11-generic", (OK, 4), (OK, 1)),
+                ("gfx11-generic:xnack-", (OK, 4), (OK, 1)),
+                ("gfx9-generic", (NONE, 0), (NONE, 0)),
+                ("gfx12-generic", (NONE, 0), (NONE, 0)),
+                ("gfx9", (NONE, 0), (NONE, 0)),
+                ("gfx9-generic-:xnack-", (QUERY, 0), (QUERY, 0)),
+            ] {
+                let device = format!("hip-amdgcn-amd-amdhsa{dashes}{processor}");
+                assert_eq!(index("generic", &device), long, "{device}");
+                assert_eq!(index("generic-short", &device), short, "{device}");
+            }
+        }
     }
 
     #[test]

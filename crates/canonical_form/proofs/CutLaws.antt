@@ -10,9 +10,9 @@ use lib.Dec.{T, eqb, ltb, eqb→eq}
 use borrow.Author.Tests.{eqb-true, eqb-false, ne-eqb, lt-ltb, le-ltb}
 use Rattle.wire.specs.Lists.{every}
 use Rattle.entry_id.specs.Text.{splitOn, onFirst}
-use Rattle.wire.proofs.Bools.{and-l, and-r, is-false, cases}
+use Rattle.wire.proofs.Bools.{and-l, and-r, or-neither, neither-or, is-false, cases}
 use Rattle.entry_id.proofs.TextLaws.{split-last, split-skip, split-some}
-use Rattle.entry_id.specs.Meaning.{fieldsOf, piecesOf, fieldByte, nameByte}
+use Rattle.entry_id.specs.Meaning.{fieldsOf, piecesOf, fieldByte, nameByte, processorByte}
 use Rattle.entry_id.proofs.ReadBack.{no-dash}
 use Rattle.entry_id.specs.Scan.{part, Run, endsAt, piecesAt}
 use Rattle.entry_id.proofs.RunLaws.{part-drop, byte-inside}
@@ -62,7 +62,7 @@ module _ (f r : List ℕ) (t : T (every fieldByte f)) where
   unfolding piecesOf
   pieces-end = rw (split-last 58 fieldByte no-colon f t)
 
-every-not : {A : Type 0} (p : A → Bool) (f : List A) (b : A) (r : List A) → p b ≡ false → every p (f ++ b ∷ r) ≡ false
+pub every-not : {A : Type 0} (p : A → Bool) (f : List A) (b : A) (r : List A) → p b ≡ false → every p (f ++ b ∷ r) ≡ false
 unfolding every
 every-not p [] b r e = rw e
 every-not p (x ∷ f) b r e = both (p x) (every-not p f b r e)
@@ -75,17 +75,17 @@ first-not : (c b : ℕ) (r : List ℕ) → eqb b c ≡ false → splitOn c (b �
 unfolding splitOn onFirst
 first-not c b r e = let (q, qs, h) = split-some c r in rw (e, h)
 
-fields-bad : (f r : List ℕ) (b : ℕ) → T (every fieldByte f) → fieldByte b ≡ false → eqb b 45 ≡ false → eqb b 58 ≡ false → every (every fieldByte) (fieldsOf (f ++ b ∷ r)) ≡ false
-unfolding fieldsOf every
-fields-bad f r b t n d k =
+-- a run of field bytes lies in the first field
+pub first-through : (f r : List ℕ) → T (every fieldByte f) → getD (fieldsOf (f ++ r)) 0 [] ≡ f ++ getD (fieldsOf r) 0 []
+unfolding fieldsOf
+first-through f r t = rw (split-through 58 fieldByte no-colon f r t, split-through 45 fieldByte no-dash f (getD (splitOn 58 r) 0 []) t)
+
+-- a byte that no processor has: the first field has it
+first-bad : (f r : List ℕ) (b : ℕ) → T (every fieldByte f) → processorByte b ≡ false → eqb b 58 ≡ false → every processorByte (getD (fieldsOf (f ++ b ∷ r)) 0 []) ≡ false
+unfolding fieldsOf processorByte
+first-bad f r b t n k =
     let q = getD (splitOn 58 r) 0 [] in
-    rw (
-      split-through 58 fieldByte no-colon f (b ∷ r) t,
-      first-not 58 b r k,
-      split-through 45 fieldByte no-dash f (b ∷ q) t,
-      first-not 45 b q d,
-      every-not fieldByte f b (getD (splitOn 45 q) 0 []) n,
-    )
+    rw (first-through f (b ∷ r) t, first-not 58 b r k, first-not 45 b q (or-neither (fieldByte b) (eqb b 45) n .1), every-not processorByte f b (getD (splitOn 45 q) 0 []) n)
 
 -- ---- the same by positions
 
@@ -93,7 +93,7 @@ fields-bad f r b t n d k =
 pub data Cut (x : List ℕ) (s a : ℕ) : Type 0 where
   at-dash : getD x a 0 ≡ 45 → fieldsOf (drop s x) ≡ part x s a ∷ fieldsOf (drop (suc a) x) → piecesOf (drop s x) ≡ piecesOf (drop (suc a) x) → Cut x s a
   at-end : endsAt x a ≡ true → fieldsOf (drop s x) ≡ part x s a ∷ [] → piecesOf (drop s x) ≡ piecesAt x a → Cut x s a
-  at-bad : (getD x a 0 ≢ 45) → endsAt x a ≡ false → every (every fieldByte) (fieldsOf (drop s x)) ≡ false → Cut x s a
+  at-bad : (getD x a 0 ≢ 45) → endsAt x a ≡ false → every processorByte (getD (fieldsOf (drop s x)) 0 []) ≡ false → Cut x s a
 
 module _ (x : List ℕ) (s a : ℕ) (h : Run fieldByte x s a) where
   after : a < length x → drop s x ≡ part x s a ++ getD x a 0 ∷ drop (suc a) x
@@ -122,11 +122,11 @@ module _ (x : List ℕ) (s a : ℕ) (h : Run fieldByte x s a) where
       (rw (le-ltb a (length x) k) (ap piecesOf f ∙ pieces-end (part x s a) [] (h .passed)))
 
   cut-bad : a < length x → getD x a 0 ≢ 45 → getD x a 0 ≢ 58 → Cut x s a
-  unfolding endsAt
+  unfolding endsAt processorByte
   cut-bad k m n =
       at-bad m (rw (lt-ltb a (length x) k) (ne-eqb (getD x a 0) 58 n))
-      (ap (λ y. every (every fieldByte) (fieldsOf y)) (after k)
-      ∙ fields-bad (part x s a) (drop (suc a) x) (getD x a 0) (h .passed) (h .stop k) (ne-eqb (getD x a 0) 45 m) (ne-eqb (getD x a 0) 58 n))
+      (ap (λ y. every processorByte (getD (fieldsOf y) 0 [])) (after k)
+      ∙ first-bad (part x s a) (drop (suc a) x) (getD x a 0) (h .passed) (neither-or _ _ (h .stop k) (ne-eqb (getD x a 0) 45 m)) (ne-eqb (getD x a 0) 58 n))
 
   inside : ltb a (length x) ≡ true → Cut x s a
   inside e =
@@ -165,8 +165,8 @@ module _ (x : List ℕ) (s a : ℕ) (h : Run fieldByte x s a) where
   ]
 
   -- neither a '-' nor the end
-  pub bad-fields : (getD x a 0 ≡ 45 → ⊥) → endsAt x a ≡ false → every (every fieldByte) (fieldsOf (drop s x)) ≡ false
-  bad-fields m e = elim cut [
+  pub bad-field : (getD x a 0 ≡ 45 → ⊥) → endsAt x a ≡ false → every processorByte (getD (fieldsOf (drop s x)) 0 []) ≡ false
+  bad-field m e = elim cut [
     | at-dash d f p ↦ absurd (m d)
     | at-end d f p ↦ let z : _≡_ {A = Bool} true false = sym d ∙ e in absurd (subst T z tt)
     | at-bad n d f ↦ f

@@ -1,17 +1,20 @@
 -- What the scan of the head finds, against `fieldsOf` and `valid`. Assumes nothing.
-use Prim.Native.Nat.{ℕ, zero, suc, _+_, _≤_, _<_}
+use Prim.Native.Nat.{ℕ, suc, _+_, _≤_, _<_}
 use mathlib.Core.Path.{_≡_, refl, ap, _∙_, subst}
 use mathlib.Core.Logic.{_≢_}
-use mathlib.Core.Bool.{Bool, true, false, not, _&&_, cond}
+use mathlib.Core.Bool.{Bool, true, false, not, cond}
 use mathlib.Core.List.{List, [], _∷_, _++_, append-assoc}
 use native.Mathlib.Omega.{arith}
 use lib.ListN.{length, getD, take, drop}
+use lib.Seq.{getD-drop}
 use lib.Dec.{T, leb, leb→le}
 use Rattle.wire.specs.Lists.{any, every}
 use Rattle.wire.specs.Bytes.{same, empty}
-use Rattle.wire.proofs.Bools.{and-l, and-r, and-t, is-false, of-true}
-use Rattle.entry_id.specs.Meaning.{fieldsOf, piecesOf, fieldByte, namesProcessor, fifthIsProcessor, meaningOf, meaning, kinds, shaped, proper, valid}
-use Rattle.entry_id.proofs.ReadBack.{any-holds, Proper, parts, kind-bytes, proper-meaning}
+use Rattle.wire.proofs.Bools.{byBool, and-l, and-r, and-t, is-false, of-true}
+use Rattle.entry_id.specs.Text.{joinWith}
+use Rattle.entry_id.specs.Meaning.{fieldsOf, piecesOf, fieldByte, processorByte, processorShaped, namesProcessor, fifthIsProcessor, meaningOf, meaning, kinds, shaped, proper, valid}
+use Rattle.entry_id.proofs.ReadBack.{any-holds, Proper, parts, kind-bytes, as-processor, shaped-bytes, proper-meaning}
+use Rattle.entry_id.proofs.TextLaws.{every-start}
 use Rattle.entry_id.specs.Scan.{part, Run}
 use Rattle.canonical_form.specs.Heads.{Next, Triple, filled}
 use Rattle.entry_id.proofs.RunLaws.{part-none, part-start, part-length, take-step, byte-inside, some-of}
@@ -27,13 +30,10 @@ pub filled-rest : (k : ℕ) (f : List ℕ) (fs : List (List ℕ)) → T (filled 
 unfolding filled
 filled-rest k f fs t = search (and-l, and-r)
 
-pub filled-bytes : (k : ℕ) (fs : List (List ℕ)) → T (filled k fs) → T (every (every fieldByte) fs)
-unfolding filled every
-filled-bytes zero fs t = t
-filled-bytes (suc k) [] t = tt
-filled-bytes (suc k) (f ∷ fs) t =
-    and-t (every fieldByte f) (every (every fieldByte) fs) (and-r (not (empty f)) (every fieldByte f) (and-l (not (empty f) && every fieldByte f) (filled k fs) t))
-    (filled-bytes k fs (filled-rest k f fs t))
+pub filled-first : (k : ℕ) (fs : List (List ℕ)) → T (filled (suc k) fs) → T (every fieldByte (getD fs 0 []))
+unfolding filled
+filled-first k [] t = absurd t
+filled-first k (f ∷ fs) t = search (and-l, and-r)
 
 pub filled-more : (k : ℕ) → T (filled (suc k) []) → ⊥
 unfolding filled
@@ -42,12 +42,16 @@ filled-more k t = t
 pub not-t : {b : Bool} → b ≡ false → T b → ⊥
 not-t e t = subst T e t
 
+-- a field has no byte that no processor has
+pub no-field : (f : List ℕ) → every processorByte f ≡ false → T (every fieldByte f) → ⊥
+no-field f e t = not-t e (as-processor f t)
+
 module _ (x : List ℕ) (s a k : ℕ) (h : Run fieldByte x s a) where
   pub next-no-dash : getD x a 0 ≢ 45 → filled (suc (suc k)) (fieldsOf (drop s x)) ≡ false
   next-no-dash n = is-false (filled (suc (suc k)) (fieldsOf (drop s x))) (λ t. elim (cut x s a h) [
     | at-dash e f p ↦ n e
     | at-end e f p ↦ filled-more k (filled-rest (suc k) (part x s a) [] (rw f at t))
-    | at-bad m e f ↦ not-t f (filled-bytes (suc (suc k)) (fieldsOf (drop s x)) t)
+    | at-bad m e f ↦ no-field _ f (filled-first (suc k) (fieldsOf (drop s x)) t)
   ])
 
   none-there : Run fieldByte x (suc a) (suc a) → T (filled (suc k) (fieldsOf (drop (suc a) x))) → ⊥
@@ -55,14 +59,14 @@ module _ (x : List ℕ) (s a k : ℕ) (h : Run fieldByte x s a) where
   none-there r t = elim (cut x (suc a) (suc a) r) [
     | at-dash e f p ↦ rw (part-none x (suc a)) at (filled-some k (part x (suc a) (suc a)) (fieldsOf (drop (suc (suc a)) x)) (rw f at t))
     | at-end e f p ↦ rw (part-none x (suc a)) at (filled-some k (part x (suc a) (suc a)) [] (rw f at t))
-    | at-bad m e f ↦ not-t f (filled-bytes (suc k) (fieldsOf (drop (suc a) x)) t)
+    | at-bad m e f ↦ no-field _ f (filled-first k (fieldsOf (drop (suc a) x)) t)
   ]
 
   pub next-empty : Run fieldByte x (suc a) (suc a) → filled (suc (suc k)) (fieldsOf (drop s x)) ≡ false
   next-empty r = is-false (filled (suc (suc k)) (fieldsOf (drop s x))) (λ t. elim (cut x s a h) [
     | at-dash e f p ↦ none-there r (filled-rest (suc k) (part x s a) (fieldsOf (drop (suc a) x)) (rw f at t))
     | at-end e f p ↦ filled-more k (filled-rest (suc k) (part x s a) [] (rw f at t))
-    | at-bad m e f ↦ not-t f (filled-bytes (suc (suc k)) (fieldsOf (drop s x)) t)
+    | at-bad m e f ↦ no-field _ f (filled-first (suc k) (fieldsOf (drop s x)) t)
   ])
 
 -- ---- what `valid` asks of the fields
@@ -71,85 +75,75 @@ kind-some : (k : List ℕ) → T (any (same k) kinds) → T (not (empty k))
 unfolding kinds every empty
 kind-some k t = any-holds (λ f. not (empty f)) k kinds t tt
 
-cond-both : (p : ℕ → Bool) (b : Bool) (e : List ℕ) → T (every p (cond b [] e)) → T (every p (cond b e [])) → T (every p e)
-cond-both p true e s t = t
-cond-both p false e s t = s
+proper-filled : (fs ps : List (List ℕ)) → 4 ≤ length fs → Proper (meaningOf fs ps) → T (filled 4 fs)
+unfolding filled meaningOf every
+proper-filled [] ps h m = absurd (omega arith)
+proper-filled (a ∷ []) ps h m = absurd (omega arith)
+proper-filled (a ∷ b ∷ []) ps h m = absurd (omega arith)
+proper-filled (a ∷ b ∷ c ∷ []) ps h m = absurd (omega arith)
+proper-filled (a ∷ b ∷ c ∷ d ∷ fs) ps h m =
+    let ka = kind-some a (m .kind-in) in
+    let kb = kind-bytes a (m .kind-in) in
+    let fb = m .field-bytes in
+    let b1 : T (every fieldByte b) = search (and-l, and-r) depth 8 in
+    let c1 : T (every fieldByte c) = search (and-l, and-r) depth 8 in
+    let d1 : T (every fieldByte d) = search (and-l, and-r) depth 8 in
+    let b2 : T (not (empty b)) = m .arch-some in
+    let c2 : T (not (empty c)) = m .vendor-some in
+    let d2 : T (not (empty d)) = m .system-some in
+    let z : T true = tt in
+    search and-t depth 14
 
-proper-filled : (fs ps : List (List ℕ)) → 4 ≤ length fs → length fs ≤ 6 → Proper (meaningOf fs ps) → T (filled 4 fs)
-unfolding filled meaningOf every fifthIsProcessor
-proper-filled [] ps h k m = absurd (omega arith)
-proper-filled (a ∷ []) ps h k m = absurd (omega arith)
-proper-filled (a ∷ b ∷ []) ps h k m = absurd (omega arith)
-proper-filled (a ∷ b ∷ c ∷ []) ps h k m = absurd (omega arith)
-proper-filled (a ∷ b ∷ c ∷ d ∷ []) ps h k m =
-    let ka = kind-some a (m .kind-in) in
-    let kb = kind-bytes a (m .kind-in) in
-    let fb : T (every fieldByte b && (every fieldByte c && (every fieldByte d && (every fieldByte [] && (every fieldByte [] && true))))) = m .field-bytes in
-    let b1 : T (every fieldByte b) = search (and-l, and-r) depth 8 in
-    let c1 : T (every fieldByte c) = search (and-l, and-r) depth 8 in
-    let d1 : T (every fieldByte d) = search (and-l, and-r) depth 8 in
-    let b2 : T (not (empty b)) = m .arch-some in
-    let c2 : T (not (empty c)) = m .vendor-some in
-    let d2 : T (not (empty d)) = m .system-some in
-    let z : T true = tt in
-    search and-t depth 14
-proper-filled (a ∷ b ∷ c ∷ d ∷ e ∷ []) ps h k m =
-    let ka = kind-some a (m .kind-in) in
-    let kb = kind-bytes a (m .kind-in) in
-    let fb : T (every fieldByte b && (every fieldByte c && (every fieldByte d && (every fieldByte (cond (namesProcessor e) [] e) && (every fieldByte (cond (namesProcessor e) e []) && true))))) = m .field-bytes in
-    let b1 : T (every fieldByte b) = search (and-l, and-r) depth 8 in
-    let c1 : T (every fieldByte c) = search (and-l, and-r) depth 8 in
-    let d1 : T (every fieldByte d) = search (and-l, and-r) depth 8 in
-    let e0 : T (every fieldByte (cond (namesProcessor e) [] e)) = search (and-l, and-r) depth 8 in
-    let f0 : T (every fieldByte (cond (namesProcessor e) e [])) = search (and-l, and-r) depth 8 in
-    let e1 = cond-both fieldByte (namesProcessor e) e e0 f0 in
-    let b2 : T (not (empty b)) = m .arch-some in
-    let c2 : T (not (empty c)) = m .vendor-some in
-    let d2 : T (not (empty d)) = m .system-some in
-    let z : T true = tt in
-    search and-t depth 14
-proper-filled (a ∷ b ∷ c ∷ d ∷ e ∷ f ∷ []) ps h k m =
-    let ka = kind-some a (m .kind-in) in
-    let kb = kind-bytes a (m .kind-in) in
-    let fb : T (every fieldByte b && (every fieldByte c && (every fieldByte d && (every fieldByte e && (every fieldByte f && true))))) = m .field-bytes in
-    let b1 : T (every fieldByte b) = search (and-l, and-r) depth 8 in
-    let c1 : T (every fieldByte c) = search (and-l, and-r) depth 8 in
-    let d1 : T (every fieldByte d) = search (and-l, and-r) depth 8 in
-    let e1 : T (every fieldByte e) = search (and-l, and-r) depth 8 in
-    let f1 : T (every fieldByte f) = search (and-l, and-r) depth 8 in
-    let b2 : T (not (empty b)) = m .arch-some in
-    let c2 : T (not (empty c)) = m .vendor-some in
-    let d2 : T (not (empty d)) = m .system-some in
-    let z : T true = tt in
-    search and-t depth 14
-proper-filled (a ∷ b ∷ c ∷ d ∷ e ∷ f ∷ g ∷ fs) ps h k m = absurd (omega arith)
+-- the first of fields that are joined
+first-joined : (p : ℕ → Bool) (fs : List (List ℕ)) → T (every p (joinWith 45 fs)) → T (every p (getD fs 0 []))
+unfolding joinWith every
+first-joined p [] t = tt
+first-joined p (f ∷ []) t = t
+first-joined p (f ∷ g ∷ fs) t = every-start p f (45 ∷ joinWith 45 (g ∷ fs)) t
+
+-- the fifth field is the environment, or the processor starts with it
+fifth-bytes : (fs ps : List (List ℕ)) → Proper (meaningOf fs ps) → T (every processorByte (getD fs 4 []))
+unfolding meaningOf fifthIsProcessor every
+fifth-bytes fs ps m =
+    let f = getD fs 4 [] in
+    byBool (namesProcessor f)
+    (λ e.
+    let s : T (processorShaped (joinWith 45 (drop 4 fs))) = rw e at (m .processor-shaped) in
+    subst (λ g. T (every processorByte g)) (getD-drop 4 fs 0 []) (first-joined processorByte (drop 4 fs) (shaped-bytes _ s)))
+    (λ e.
+    let b : T (every fieldByte (cond (namesProcessor f) [] f)) = search (and-l, and-r, m .field-bytes) depth 8 in
+    as-processor f (rw e at b))
 
 module _ (x : List ℕ) (v : T (valid x)) where
   shaped-is : T (shaped x)
   unfolding valid
   shaped-is = and-l (shaped x) (proper (meaning x)) v
 
-  pub valid-count : (4 ≤ length (fieldsOf x)) × (length (fieldsOf x) ≤ 6)
+  valid-least : 4 ≤ length (fieldsOf x)
   unfolding shaped
-  valid-count =
+  valid-least =
       let s = shaped-is in
       let least : T (leb 4 (length (fieldsOf x))) = search (and-l, and-r) in
-      let most : T (leb (length (fieldsOf x)) 6) = search (and-l, and-r) in
-      (leb→le 4 (length (fieldsOf x)) least, leb→le (length (fieldsOf x)) 6 most)
+      leb→le 4 (length (fieldsOf x)) least
 
   pub valid-parts : Proper (meaning x)
   valid-parts = parts (meaning x) (proper-meaning x v)
 
   pub valid-filled : T (filled 4 (fieldsOf x))
   unfolding meaning
-  valid-filled = proper-filled (fieldsOf x) (piecesOf x) (valid-count .0) (valid-count .1) valid-parts
+  valid-filled = proper-filled (fieldsOf x) (piecesOf x) valid-least valid-parts
 
   pub valid-kind : T (any (same (getD (fieldsOf x) 0 [])) kinds)
   unfolding meaning meaningOf
   valid-kind = valid-parts .kind-in
 
-  pub valid-bytes : T (every (every fieldByte) (fieldsOf x))
-  valid-bytes = filled-bytes 4 (fieldsOf x) valid-filled
+  pub valid-system : T (every fieldByte (getD (fieldsOf x) 3 []))
+  unfolding meaning meaningOf every
+  valid-system = search (and-l, and-r, valid-parts .field-bytes) depth 8
+
+  pub valid-fifth : T (every processorByte (getD (fieldsOf x) 4 []))
+  unfolding meaning
+  valid-fifth = fifth-bytes (fieldsOf x) (piecesOf x) valid-parts
 
 -- ---- the first four fields
 
@@ -161,7 +155,7 @@ module _ (x : List ℕ) (a : ℕ) (h : Run fieldByte x 0 a) where
   triple-kind n = is-false (valid x) (λ v. elim (cut x 0 a h) [
     | at-dash e f p ↦ not-t n (subst (λ (k : List ℕ). T (any (same k) kinds)) (ap (λ (l : List (List ℕ)). getD l 0 []) f ∙ part-start x a) (valid-kind x v))
     | at-end e f p ↦ not-t n (subst (λ (k : List ℕ). T (any (same k) kinds)) (ap (λ (l : List (List ℕ)). getD l 0 []) f ∙ part-start x a) (valid-kind x v))
-    | at-bad m e f ↦ not-t f (valid-bytes x v)
+    | at-bad m e f ↦ no-field _ f (filled-first 3 (fieldsOf x) (valid-filled x v))
   ])
 
   module _ (b : ℕ) (nb : Next x a b) where

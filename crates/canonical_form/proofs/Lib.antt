@@ -1,6 +1,7 @@
 pub mod ClassLaws
 pub mod CutLaws
 pub mod HeadLaws
+pub mod ProcessorLaws
 pub mod HeadForms
 pub mod OrderLaws
 pub mod WriteLaws

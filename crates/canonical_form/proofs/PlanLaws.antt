@@ -19,7 +19,7 @@ use Rattle.entry_id.specs.Text.{splitOn, joinWith}
 use Rattle.wire.specs.Bytes.{same, empty, before}
 use Rattle.wire.proofs.Bools.{and-l, and-r, and-t, or-t, or-l, or-r, is-true, is-false, of-true, cond-ind, cases}
 use Rattle.entry_id.proofs.TextLaws.{split-some, join-split}
-use Rattle.entry_id.specs.Meaning.{byName, Feature, fieldsOf, piecesOf, feature, meaningOf, meaning, piece, sixFields, canonicalOf, fieldByte, kinds, signed, named, shaped, proper, valid, canon}
+use Rattle.entry_id.specs.Meaning.{byName, Feature, fieldsOf, piecesOf, feature, meaningOf, meaning, piece, sixFields, canonicalOf, fieldByte, processorShaped, kinds, signed, named, shaped, proper, valid, canon}
 use Rattle.entry_id.proofs.ReadBack.{canon-is, canon-refused}
 use Rattle.entry_id.proofs.CompareLaws.{piece-feature, valid-signed}
 use Rattle.entry_id.specs.Scan.{part, piecesAt}
@@ -151,10 +151,10 @@ not-not true e = tt
 not-not false e = subst T e tt
 
 -- a text of so many fields is not empty
-some-text : (x : List ℕ) (dashes : ℕ) → length (fieldsOf x) + dashes ≡ 6 → dashes ≤ 2 → 1 ≤ length x
+some-text : (x : List ℕ) → 4 ≤ length (fieldsOf x) → 1 ≤ length x
 unfolding fieldsOf splitOn
-some-text [] dashes e h = absurd (omega arith)
-some-text (y ∷ x) dashes e h = omega arith
+some-text [] h = absurd (omega arith)
+some-text (y ∷ x) h = omega arith
 
 -- ---- what `valid` asks
 
@@ -330,12 +330,9 @@ module _ (x : List ℕ) (at dashes stop : ℕ) (proc : Bool) (h : HeadAt x at da
       shaped-ok : T (shaped x)
       unfolding shaped
       shaped-ok =
-          let c = h .count in
-          let f = h .few in
-          let a : T (leb 1 (length x)) = le→leb 1 (length x) (some-text x dashes (h .count) (h .few)) in
+          let a : T (leb 1 (length x)) = le→leb 1 (length x) (some-text x (h .least)) in
           let b : T (leb (length x) 256) = le→leb (length x) 256 (omega arith) in
-          let d : T (leb 4 (length (fieldsOf x))) = le→leb 4 (length (fieldsOf x)) (omega arith) in
-          let e : T (leb (length (fieldsOf x)) 6) = le→leb (length (fieldsOf x)) 6 (omega arith) in
+          let d : T (leb 4 (length (fieldsOf x))) = le→leb 4 (length (fieldsOf x)) (h .least) in
           let s : T (every signed (piecesOf x)) = rw pieces-spans (all-signed x (take n t) (pc .all-good)) in
           search and-t depth 8
 
@@ -358,7 +355,8 @@ module _ (x : List ℕ) (at dashes stop : ℕ) (proc : Bool) (h : HeadAt x at da
           let b : T (not (empty (m .arch))) = h .arch-some in
           let c : T (not (empty (m .vendor))) = h .vendor-some in
           let d : T (not (empty (m .system))) = h .system-some in
-          let e : T (every (every fieldByte) (m .arch ∷ m .vendor ∷ m .system ∷ m .environment ∷ m .processor ∷ [])) = h .field-bytes in
+          let e : T (every (every fieldByte) (m .arch ∷ m .vendor ∷ m .system ∷ m .environment ∷ [])) = h .field-bytes in
+          let o : T (processorShaped (m .processor)) = h .processor-shaped in
           let f : T (every named (m .features)) = rw features-spans (all-named x (sortBy (nameOf x) (take n t)) sorted-good) in
           let i : T (risingBy byName (m .features)) = of-true (risingBy byName (m .features)) (apart-is ∙ ris) in
           let j : T (leb (length (m .features)) 8) = le→leb (length (m .features)) 8 (omega (arith, count-is, pc .few)) in

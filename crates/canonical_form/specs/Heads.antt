@@ -6,20 +6,22 @@ use mathlib.Core.List.{List, [], _∷_, _++_}
 use lib.ListN.{length, getD, take, drop, replicate}
 use lib.Dec.{T}
 use Rattle.wire.specs.Lists.{any, every}
-use Rattle.entry_id.specs.Text.{joinWith}
+use Rattle.entry_id.specs.Text.{joinWith, notColon}
 use Rattle.entry_id.specs.Scan.{part, Run, endsAt, piecesAt}
 use Rattle.wire.specs.Bytes.{empty, same}
-use Rattle.entry_id.specs.Meaning.{fieldsOf, piecesOf, meaning, sixFields, nameByte, fieldByte, kinds, valid}
+use Rattle.entry_id.specs.Meaning.{fieldsOf, piecesOf, meaning, sixFields, nameByte, fieldByte, processorByte, processorShaped, kinds, valid}
+use Rattle.entry_id.specs.Canonical.{headOf}
 use Rattle.canonical_form.specs.declared.scan.Class.{Class}
-use Rattle.canonical_form.specs.declared.scan.Class.the-variants.{Field, Name}
+use Rattle.canonical_form.specs.declared.scan.Class.the-variants.{Field, Name, Processor}
 
 abbrev pub inClass : Class → ℕ → Bool
 inClass Field = fieldByte
 inClass Name = nameByte
+inClass Processor = processorByte
 
--- the first k fields are there and not empty, and all are made of field bytes
+-- the first k fields are there, not empty and made of field bytes
 unfoldable pub filled : ℕ → List (List ℕ) → Bool
-filled zero fs = every (every fieldByte) fs
+filled zero fs = true
 filled (suc k) [] = false
 filled (suc k) (f ∷ fs) = not (empty f) && every fieldByte f && filled k fs
 
@@ -56,6 +58,15 @@ pub record TripleIs (x : List ℕ) (d : ℕ) : Type 0 where
   pub found : 0 < d → Triple x d
   pub refused : d ≡ 0 → valid x ≡ false
 
+-- from a up to r, where the head ends, stands a processor
+pub record ProcessorAt (x : List ℕ) (a r : ℕ) : Type 0 where
+  pub run : Run notColon x a r
+  pub shaped : T (processorShaped (part x a r))
+
+pub record ProcessorIs (x : List ℕ) (a r : ℕ) : Type 0 where
+  pub found : 0 < r → ProcessorAt x a r
+  pub missing : r ≡ 0 → processorShaped (headOf (drop a x)) ≡ false
+
 -- the text starts with a kind and a '-'
 pub record Kinded (x : List ℕ) : Type 0 where
   pub kind : List ℕ
@@ -69,9 +80,10 @@ pub record HeadAt (x : List ℕ) (at dashes stop : ℕ) (proc : Bool) : Type 0 w
   pub arch-some : T (not (empty (meaning x .arch)))
   pub vendor-some : T (not (empty (meaning x .vendor)))
   pub system-some : T (not (empty (meaning x .system)))
-  pub field-bytes : T (every (every fieldByte) (meaning x .arch ∷ meaning x .vendor ∷ meaning x .system ∷ meaning x .environment ∷ meaning x .processor ∷ []))
+  pub field-bytes : T (every (every fieldByte) (meaning x .arch ∷ meaning x .vendor ∷ meaning x .system ∷ meaning x .environment ∷ []))
+  pub processor-shaped : T (processorShaped (meaning x .processor))
   pub proc-is : proc ≡ not (empty (meaning x .processor))
-  pub count : length (fieldsOf x) + dashes ≡ 6
+  pub least : 4 ≤ length (fieldsOf x)
   pub few : dashes ≤ 2
   pub place : at ≤ stop
   pub within : stop ≤ length x

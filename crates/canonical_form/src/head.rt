@@ -4,11 +4,13 @@ ghost use Prim.Native.Nat.{_+_, _<_};
 ghost use mathlib.Core.Bool.{true, false};
 ghost use Rattle.wire.specs.Lists.{any};
 ghost use Rattle.wire.specs.Bytes.{same};
-ghost use Rattle.entry_id.specs.Meaning.{kinds, namesProcessor};
-ghost use Rattle.canonical_form.specs.Heads.{NextIs, TripleIs, HeadIs};
+ghost use Rattle.entry_id.specs.Meaning.{kinds, namesProcessor, fieldByte};
+ghost use Rattle.entry_id.specs.Scan.{Run};
+ghost use Rattle.canonical_form.specs.Heads.{NextIs, TripleIs, ProcessorIs, HeadIs};
 use crate::scan::byte;
 use crate::scan::ends;
 use crate::scan::field_end;
+use crate::scan::processor_end;
 
 fn is_kind(k: &[u8]) -> bool
     ensures { λ r. ⌜ r ≡ any (same (now (k .entry))) kinds ⌝ }
@@ -73,6 +75,24 @@ fn triple(id: &[u8]) -> usize
     next(id, c)
 }
 
+// The end of the processor, empty or not, that starts at a, with a field that ends at e; 0 where what stands there is none.
+fn processor(id: &[u8], a: usize, e: usize) -> usize
+    requires { ⌜ (0 < a) × Run fieldByte (now id) a e ⌝ }
+    ensures { λ r. ⌜ ProcessorIs (now (id .entry)) a r ⌝ }
+{
+    if ends(id, e) {
+        return e;
+    }
+    let r = processor_end(id, e);
+    if !ends(id, r) {
+        return 0;
+    }
+    if (id[a] == b'-') | (id[r - 1] == b'-') {
+        return 0;
+    }
+    r
+}
+
 // The head of an ID: the canonical form has `dashes` more '-', at `at`; it ends at `stop`; `proc` says whether a processor is named.
 pub(crate) struct Head {
     pub ok: bool,
@@ -121,18 +141,23 @@ pub(crate) fn read_head(id: &[u8]) -> Head
         return no_head();
     }
     let e = field_end(id, d + 1);
-    if ends(id, e) {
-        if is_proc(&id[d + 1..e]) {
-            return head_of(d, 1, e, true);
+    if is_proc(&id[d + 1..e]) {
+        let p = processor(id, d + 1, e);
+        if p == 0 {
+            return no_head();
         }
+        return head_of(d, 1, p, true);
+    }
+    if ends(id, e) {
         return head_of(e, 1, e, false);
     }
     if byte(id, e) != b'-' {
         return no_head();
     }
     let f = field_end(id, e + 1);
-    if ends(id, f) {
-        return head_of(f, 0, f, e + 1 < f);
+    let p = processor(id, e + 1, f);
+    if p == 0 {
+        return no_head();
     }
-    no_head()
+    head_of(p, 0, p, e + 1 < p)
 }

@@ -3,7 +3,7 @@ ghost use mathlib.Core.Path.{_≡_};
 ghost use Prim.Native.Nat.{_<_, _≤_};
 ghost use mathlib.Core.Bool.{true};
 ghost use lib.ListN.{length, getD};
-ghost use Rattle.entry_id.specs.Meaning.{fieldByte, nameByte};
+ghost use Rattle.entry_id.specs.Meaning.{fieldByte, nameByte, processorByte};
 ghost use Rattle.entry_id.specs.Scan.{Run, endsAt};
 ghost use Rattle.canonical_form.specs.Heads.{inClass};
 
@@ -36,10 +36,17 @@ fn field_byte(b: u8) -> bool
     ((65 <= b) & (b <= 90)) | (b == 95)
 }
 
+fn processor_byte(b: u8) -> bool
+    ensures { λ r. ⌜ r ≡ processorByte b ⌝ }
+{
+    field_byte(b) | (b == b'-')
+}
+
 // A class of bytes.
 pub(crate) enum Class {
     Field,
     Name,
+    Processor,
 }
 
 fn in_class(class: Class, b: u8) -> bool
@@ -48,6 +55,7 @@ fn in_class(class: Class, b: u8) -> bool
     match class {
         Class::Field => field_byte(b),
         Class::Name => name_byte(b),
+        Class::Processor => processor_byte(b),
     }
 }
 
@@ -78,6 +86,13 @@ pub(crate) fn name_end(x: &[u8], from: usize) -> usize
     ensures { λ r. ⌜ Run nameByte (now (x .entry)) from r ⌝ }
 {
     run_end(x, from, Class::Name)
+}
+
+pub(crate) fn processor_end(x: &[u8], from: usize) -> usize
+    requires { ⌜ from ≤ length (now x) ⌝ }
+    ensures { λ r. ⌜ Run processorByte (now (x .entry)) from r ⌝ }
+{
+    run_end(x, from, Class::Processor)
 }
 
 // The byte at i, or 0 past the end.

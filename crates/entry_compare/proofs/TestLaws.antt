@@ -2,14 +2,14 @@
 use Prim.Native.Nat.{ℕ, zero, suc, _+_, _-_, _≤_, _<_}
 use mathlib.Core.Path.{_≡_, refl, sym, ap, ap₂, _∙_, subst}
 use mathlib.Core.Logic.{inl, inr}
-use mathlib.Core.Bool.{Bool, true, false, not, _&&_}
+use mathlib.Core.Bool.{Bool, true, false, _&&_}
 use mathlib.Core.List.{List, [], _∷_}
 use lib.ListN.{length, getD, take, drop, drop-of-length-le, length-drop}
 use lib.Seq.{drop-cons, drop-drop, getD-drop, getD-take, length-take-le}
 use lib.Dec.{T, ltb, eqb}
-use borrow.Author.Tests.{eqb-true, eqb-false, eq-eqb, ne-eqb, lt-ltb, le-ltb, ltb-true, ltb-false, not-true, not-false}
+use borrow.Author.Tests.{eqb-true, eqb-false, eq-eqb, ne-eqb, lt-ltb, le-ltb, ltb-true, ltb-false, not-true}
 use Rattle.wire.specs.Lists.{agree, any, every}
-use Rattle.entry_id.specs.Text.{splitOn, otherThan, notColon}
+use Rattle.entry_id.specs.Text.{otherThan, notColon}
 use Rattle.wire.specs.Bytes.{same, common}
 use Rattle.entry_id.proofs.TextLaws.{every-imp}
 use Rattle.entry_id.proofs.KindLaws.{head-none, head-colon, head-more}
@@ -19,19 +19,9 @@ use Rattle.entry_id.specs.Meaning.{piecesOf}
 use Rattle.entry_id.specs.Scan.{part, Run, piecesAt, endsAt}
 use Rattle.entry_compare.specs.Meet.{MeetIs}
 use Rattle.entry_id.specs.Canonical.{headOf, within, signByte, sameButSign, compatibleSpelled, mixedSpelled}
-use Rattle.entry_id.proofs.RunLaws.{cut-run, part-start, pieces-here, pieces-none}
+use Rattle.entry_id.proofs.RunLaws.{cut-piece, pieces-part, goes-on, stop-here, head-stops, part-start, pieces-here, pieces-none}
 use native.Mathlib.Omega.{arith}
 use native.Mathlib.Numerals.{add-one}
-
-module _ (x : List ℕ) (a r : ℕ) (h : Run notColon x a r) where
-  -- the text from a on starts with the piece up to r
-  pub cut-piece : splitOn 58 (drop a x) ≡ part x a r ∷ piecesAt x r
-  unfolding piecesAt
-  cut-piece = cut-run 58 x a r h
-
-pub pieces-is : (x : List ℕ) (r : ℕ) → Run notColon x 0 r → piecesOf x ≡ piecesAt x r
-unfolding piecesOf
-pieces-is x r h = ap (λ (l : List (List ℕ)). drop 1 l) (cut-piece x 0 r h)
 
 -- the next piece
 module _ (x : List ℕ) (at e : ℕ) (k : at < length x) (h : Run notColon x (suc at) e) where
@@ -74,19 +64,8 @@ module _ (x : List ℕ) (i : ℕ) where
     | inr h ↦ rw (drop-of-length-le x (ltb-false i (length x) h)) head-none
   ]
 
-  pub goes-on : endsAt x i ≡ false → (i < length x) × (getD x i 0 ≡ 58 → ⊥)
-  unfolding endsAt
-  goes-on e = elim (cases (ltb i (length x))) [
-    | inl h ↦ (ltb-true i (length x) h, eqb-false (getD x i 0) 58 (rw h at e))
-    | inr h ↦ let z : _≡_ {A = Bool} true false = rw h at e in absurd (subst T z tt)
-  ]
-
   head-on : endsAt x i ≡ false → headOf (drop i x) ≡ getD x i 0 ∷ headOf (drop (suc i) x)
-  head-on e = let g = goes-on e in rw (drop-cons x i 0 (g .0)) (head-more (getD x i 0) (drop (suc i) x) (g .1))
-
-  stop-here : endsAt x i ≡ true → i < length x → notColon (getD x i 0) ≡ false
-  unfolding otherThan endsAt
-  stop-here e k = ap not (rw (lt-ltb i (length x) k) at e)
+  head-on e = let g = goes-on x i e in rw (drop-cons x i 0 (g .0)) (head-more (getD x i 0) (drop (suc i) x) (g .1))
 
 module _ (a b : List ℕ) (i : ℕ) where
   meet-short : endsAt a i ≡ false → length b ≤ i → same (headOf (drop i a)) (headOf (drop i b)) ≡ false
@@ -131,13 +110,6 @@ module _ (x : List ℕ) (e : ℕ) (r : Run notColon x 0 e) where
       let q : notColon (getD x k 0) ≡ true = ap notColon (sym (getD-take e x k 0 h)) ∙ every-get notColon (take e x) t k l in
       rw (lt-ltb k (length x) (omega (arith, r .high))) (not-true _ q)
 
-  head-stops : endsAt x e ≡ true
-  unfolding endsAt otherThan
-  head-stops = elim (cases (ltb e (length x))) [
-    | inl h ↦ rw h (not-false _ (r .stop (ltb-true e (length x) h)))
-    | inr h ↦ rw h
-  ]
-
 -- the heads of two texts whose common start has n bytes, the first head ending at e
 module _ (a b : List ℕ) (e n : ℕ) (r : Run notColon a 0 e) (c : n ≡ common a b) where
   heads-from : (k : ℕ) → k ≤ e → k ≤ n → same (headOf a) (headOf b) ≡ same (headOf (drop k a)) (headOf (drop k b))
@@ -159,7 +131,7 @@ module _ (a b : List ℕ) (e n : ℕ) (r : Run notColon a 0 e) (c : n ≡ common
 
   module _ (h : e ≤ n) where
     meet-at : same (headOf a) (headOf b) ≡ endsAt b e
-    meet-at = heads-from e (omega arith) h ∙ meet-end a b e (head-stops a e r)
+    meet-at = heads-from e (omega arith) h ∙ meet-end a b e (head-stops a 0 e r)
 
     meet-run : endsAt b e ≡ true → Run notColon b 0 e
     meet-run t = record {
@@ -191,7 +163,7 @@ ends-past x e h = rw (le-ltb e (length x) h)
 module _ (a b : List ℕ) (r : ℕ) (m : MeetIs a b r) where
   pub compatible-yes : 0 < r → within (piecesAt b (r - 1)) (piecesAt a (r - 1)) ≡ compatibleSpelled a b
   unfolding compatibleSpelled
-  compatible-yes h = let f = m .found h in rw (f .0, pieces-is a (r - 1) (f .1 .0), pieces-is b (r - 1) (f .1 .1))
+  compatible-yes h = let f = m .found h in rw (f .0, pieces-part a 0 (r - 1) (f .1 .0), pieces-part b 0 (r - 1) (f .1 .1))
 
   pub compatible-no : r ≡ 0 → false ≡ compatibleSpelled a b
   unfolding compatibleSpelled

@@ -14,7 +14,7 @@ use Rattle.wire.proofs.Bools.{bool-ext, byBool, of-true, and-l, and-r, and-t, a
 use Rattle.entry_id.specs.Meaning.{Meaning, piece, sixFields, canonicalOf, meaning, valid, canon}
 use Rattle.entry_id.specs.Compare.{comparedKind, comparedAs, sameTarget, sameFeature, compatible, sameNames, sameMeaning, mixed}
 use Rattle.entry_id.specs.Canonical.{headOf, kindPart, afterKind, within, sameButSign, ofOneKind, compatibleSpelled, mixedSpelled, compatibleText, sameText, mixedText}
-use Rattle.entry_id.proofs.ReadBack.{Proper, Plain, parts, proper-meaning, plain-meaning, canon-is, head-write, pieces-back, meaning-write}
+use Rattle.entry_id.proofs.ReadBack.{Plain, plain-meaning, canon-is, head-write, pieces-back, meaning-write}
 use Rattle.entry_id.proofs.FeatureLaws.{sameFeature-eq, sameFeature-refl, agree-eq, agree-refl}
 use Rattle.entry_id.proofs.CompareLaws.{within-pieces, fields-heads}
 use Rattle.entry_id.proofs.SignLaws.{alike-names}
@@ -29,10 +29,10 @@ head-canon x v = ap (λ l. getD (splitOn 58 l) 0 []) (canon-is x v) ∙ head-wri
 -- the head behind its kind, in either order
 pub head-after : (x : List ℕ) → T (valid x) → afterKind (headOf (canon x)) ≡ headOf (afterKind (canon x))
 head-after x v =
-    ap afterKind (head-canon x v) ∙ after-head (meaning x) (parts (meaning x) (proper-meaning x v)) ∙ ap (λ l. headOf (afterKind l)) (sym (canon-is x v))
+    ap afterKind (head-canon x v) ∙ after-head (meaning x) (plain-meaning x v) ∙ ap (λ l. headOf (afterKind l)) (sym (canon-is x v))
 
 pub head-kind : (x : List ℕ) → T (valid x) → kindPart (headOf (canon x)) ≡ kindPart (canon x)
-head-kind x v = ap kindPart (head-canon x v) ∙ kind-head (meaning x) (parts (meaning x) (proper-meaning x v)) ∙ ap kindPart (sym (canon-is x v))
+head-kind x v = ap kindPart (head-canon x v) ∙ kind-head (meaning x) (plain-meaning x v) ∙ ap kindPart (sym (canon-is x v))
 
 -- ---- the tests behind the kind, on what is written of two meanings
 
@@ -85,11 +85,11 @@ module _ (x y : List ℕ) (v : T (valid x)) (w : T (valid y)) where
   abbrev n : Meaning
   n = meaning y
 
-  good-m : Proper m
-  good-m = parts m (proper-meaning x v)
+  good-m : Plain m
+  good-m = plain-meaning x v
 
-  good-n : Proper n
-  good-n = parts n (proper-meaning y w)
+  good-n : Plain n
+  good-n = plain-meaning y w
 
   -- a test of kinds, of the other fields and of features
   by-parts : (test : List ℕ → List ℕ → Bool) (features : Bool)

@@ -20,7 +20,7 @@ use Rattle.entry_id.specs.Meaning.{byName, Feature, Meaning, piecesOf, f
 use Rattle.entry_id.specs.Theorems.{nameIn}
 use Rattle.entry_id.specs.Compare.{sameFeature, sameNames}
 use Rattle.entry_id.specs.Canonical.{within}
-use Rattle.entry_id.proofs.ReadBack.{Plain, all-signed, features-pieces, head-cut}
+use Rattle.entry_id.proofs.ReadBack.{Plain, all-signed, features-pieces, sixOf, six-back}
 use Rattle.entry_id.proofs.FeatureLaws.{sameFeature-eq, sameFeature-refl, agree-eq, agree-refl}
 
 -- ---- a feature is its piece
@@ -84,7 +84,7 @@ fields-heads a b s t =
     let y = joinWith (code "-") (sixFields b) in
     bool-ext (agree same (sixFields a) (sixFields b)) (same x y)
     (λ u. subst (λ fs. T (same x (joinWith (code "-") fs))) (agree-eq same same-eq (sixFields a) (sixFields b) u) (same-refl x))
-    (λ u. subst (λ fs. T (agree same (sixFields a) fs)) (sym (head-cut a s) ∙ ap (splitOn (code "-")) (same-eq x y u) ∙ head-cut b t) (agree-refl same same-refl (sixFields a)))
+    (λ u. subst (λ fs. T (agree same (sixFields a) fs)) (sym (six-back a s) ∙ ap (λ z. sixOf (splitOn (code "-") z)) (same-eq x y u) ∙ six-back b t) (agree-refl same same-refl (sixFields a)))
 
 -- ---- the same set of names, either way round
 

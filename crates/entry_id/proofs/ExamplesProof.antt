@@ -5,14 +5,13 @@ use Rattle.wire.specs.Order.{insertBy, risingBy, sortBy}
 use Rattle.wire.specs.Bytes.{empty, same, before}
 use Rattle.entry_id.specs.Text.{onFirst, splitOn, joinWith}
 use Rattle.entry_id.specs.Meaning.{fieldsOf, piecesOf, namesProcessor, fifthIsProcessor, feature, meaningOf, meaning, sign, piece, sixFields, canonicalOf}
-use Rattle.entry_id.specs.Meaning.{nameByte, fieldByte, kinds, signed, named, shaped, proper, valid, canon}
+use Rattle.entry_id.specs.Meaning.{nameByte, fieldByte, processorByte, processorShaped, kinds, signed, named, shaped, proper, valid, canon}
 use Rattle.entry_id.specs.Examples.{IdExamples}
 
 pub idExamples : IdExamples
-unfolding empty same before every any onFirst splitOn joinWith fieldsOf piecesOf namesProcessor fifthIsProcessor feature insertBy sortBy meaningOf meaning sign piece sixFields canonicalOf nameByte fieldByte kinds signed risingBy named shaped proper valid canon
+unfolding empty same before every any onFirst splitOn joinWith fieldsOf piecesOf namesProcessor fifthIsProcessor feature insertBy sortBy meaningOf meaning sign piece sixFields canonicalOf nameByte fieldByte processorByte processorShaped kinds signed risingBy named shaped proper valid canon
 idExamples = record {
   no-processor = refl;
-  kept-environment = refl;
   three-fields = refl;
   four-fields = refl;
   seven-fields = refl;
@@ -21,4 +20,24 @@ idExamples = record {
   kept-kind = refl;
   other-kind = refl;
   empty-vendor = refl;
+  generic = refl;
+  generic-again = refl;
+  sm-fifth = refl;
+  no-environment = refl;
+  two-in-one = refl;
+  two-form = refl;
+  sixth-environment = refl;
+  sixth-processor = refl;
+  sixth-form = refl;
+  not-quite = refl;
+  not-quite-form = refl;
+  with-feature = refl;
+  no-sixth = refl;
+  no-sixth-form = refl;
+  gfxenv-refused = refl;
+  hyphen-alone = refl;
+  hyphen-first = refl;
+  hyphen-last = refl;
+  hyphen-colon = refl;
+  hyphens-inside = refl;
 }

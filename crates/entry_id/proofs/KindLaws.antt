@@ -10,7 +10,7 @@ use lib.Dec.{T, eqb}
 use borrow.Author.Tests.{eq-eqb, ne-eqb, eqb-true, eqb-false}
 use Rattle.wire.specs.Bytes.{bytes, same}
 use Rattle.wire.specs.Lists.{every}
-use Rattle.wire.proofs.Bools.{byBool, of-true, is-true, and-t, and-true, or-true, or-false, or-neither}
+use Rattle.wire.proofs.Bools.{byBool, of-true, is-true, and-l, and-r, and-t, and-true, or-true, or-false, or-neither}
 use Rattle.wire.proofs.ByteLaws.{same-eq, same-refl, same-sym}
 use Rattle.entry_id.specs.Text.{splitOn, onFirst, joinWith, otherThan, notColon}
 use Rattle.entry_id.specs.Meaning.{Meaning, fieldsOf, piecesOf, meaningOf, meaning, piece, sixFields, canonicalOf, fieldByte}
@@ -18,7 +18,7 @@ use Rattle.entry_id.specs.Compare.{comparedKind}
 use Rattle.entry_id.specs.Theorems.{hipKind}
 use Rattle.entry_id.specs.Canonical.{headOf, kindPart, afterKind, ofOneKind}
 use Rattle.entry_id.proofs.TextLaws.{every-imp, split-skip, split-start, split-some}
-use Rattle.entry_id.proofs.ReadBack.{Proper, Plain, kind-bytes, no-dash, no-colon, field-not-colon, head-write}
+use Rattle.entry_id.proofs.ReadBack.{Plain, fiveFields, no-dash, no-colon, field-not-colon, head-write}
 
 -- ---- any text, byte by byte
 
@@ -157,10 +157,16 @@ unfolding joinWith
 join-first c a b [] = refl
 join-first c a b (p ∷ l) = append-assoc a b (c ∷ joinWith c (p ∷ l))
 
-module _ (m : Meaning) (h : Proper m) where
+module _ (m : Meaning) (h : Plain m) where
   pub bare-plain : Plain (bare m)
-  unfolding bare every sixFields
-  bare-plain = record { all-fields = h .field-bytes; all-named = h .all-named; in-order = h .in-order }
+  unfolding bare every fiveFields
+  bare-plain = record {
+    all-fields = and-r (every fieldByte (m .kind)) _ (h .all-fields);
+    environment-plain = h .environment-plain;
+    processor-bytes = h .processor-bytes;
+    all-named = h .all-named;
+    in-order = h .in-order;
+  }
 
   -- what follows the kind in the head, behind the '-'
   fields : List ℕ
@@ -175,7 +181,8 @@ module _ (m : Meaning) (h : Proper m) where
   form-kind = join-first 58 (m .kind) (45 ∷ fields) (map piece (m .features)) ∙ ap (λ l. m .kind ++ l) (join-first 58 (45 ∷ []) fields (map piece (m .features)))
 
   plain-kind : T (every fieldByte (m .kind))
-  plain-kind = kind-bytes (m .kind) (h .kind-in)
+  unfolding every fiveFields
+  plain-kind = and-l (every fieldByte (m .kind)) _ (h .all-fields)
 
   kind-form : kindPart (canonicalOf m) ≡ m .kind
   kind-form = ap kindPart form-kind ∙ kind-before (m .kind) _ plain-kind
@@ -193,7 +200,7 @@ module _ (m : Meaning) (h : Proper m) where
   after-head = after-before (m .kind) _ plain-kind ∙ sym (head-write (bare m) bare-plain) ∙ sym (ap headOf after-form)
 
 -- a test on canonical forms is one of kinds and one behind them
-pub kind-test : (test : List ℕ → List ℕ → Bool) (a b : Meaning) → Proper a → Proper b
+pub kind-test : (test : List ℕ → List ℕ → Bool) (a b : Meaning) → Plain a → Plain b
     → ofOneKind test (canonicalOf a) (canonicalOf b) ≡ (same (comparedKind (a .kind)) (comparedKind (b .kind)) && test (canonicalOf (bare a)) (canonicalOf (bare b)))
 unfolding ofOneKind
 kind-test test a b h k =

@@ -4,6 +4,7 @@ pub mod FeatureLaws
 pub mod CompareLaws
 pub mod SignLaws
 pub mod KindLaws
+pub mod ProcessorLaws
 pub mod CanonicalLaws
 pub mod Theorems
 pub mod ExamplesProof

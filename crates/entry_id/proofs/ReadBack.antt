@@ -4,20 +4,20 @@ use Prim.Native.Char.{code}
 use mathlib.Core.Path.{_≡_, refl, sym, ap, _∙_, subst}
 use mathlib.Core.Logic.{inl, inr, _↔_}
 use mathlib.Core.Bool.{Bool, true, false, not, _||_}
-use mathlib.Core.List.{List, [], _∷_, map}
+use mathlib.Core.List.{List, [], _∷_, _++_, map}
 use native.Mathlib.Omega.{arith}
-use lib.ListN.{length, getD, take, length-append}
+use lib.ListN.{length, getD, take, drop, length-append}
 use lib.Seq.{take-at, getD-at}
-use lib.Dec.{T, eqb, leb, eqb→eq, le→leb, leb→le}
+use lib.Dec.{T, eqb, leb, le→leb, leb→le}
 use Rattle.wire.proofs.SortLaws.{sort-rising}
 use Rattle.wire.specs.Lists.{any, every}
 use Rattle.wire.specs.Order.{risingBy, sortBy}
 use Rattle.wire.specs.Bytes.{empty, same}
 use Rattle.entry_id.specs.Text.{splitOn, joinWith, otherThan, notColon}
-use Rattle.wire.proofs.Bools.{and-l, and-r, and-t, or-t, or-l, is-true, is-false, of-true, cases}
-use Rattle.entry_id.proofs.TextLaws.{every-imp, every-append, split-join}
+use Rattle.wire.proofs.Bools.{and-l, and-r, and-t, or-t, or-l, is-true, is-false, of-true, cases, cond-case}
+use Rattle.entry_id.proofs.TextLaws.{avoids, every-imp, every-append, split-join, split-join-last, join-split}
 use Rattle.wire.proofs.ByteLaws.{same-eq}
-use Rattle.entry_id.specs.Meaning.{byName, Feature, Meaning, fieldsOf, piecesOf, fifthIsProcessor, feature, meaningOf, meaning, sign, piece, sixFields, canonicalOf, nameByte, fieldByte, kinds, signed, named, shaped, proper, valid, canon}
+use Rattle.entry_id.specs.Meaning.{byName, Feature, Meaning, fieldsOf, piecesOf, namesProcessor, fifthIsProcessor, feature, meaningOf, meaning, sign, piece, sixFields, canonicalOf, nameByte, fieldByte, processorByte, processorShaped, kinds, signed, named, shaped, proper, valid, canon}
 
 -- ---- one feature
 
@@ -68,7 +68,8 @@ pub record Proper (m : Meaning) : Type 0 where
   pub arch-some : T (not (empty (m .arch)))
   pub vendor-some : T (not (empty (m .vendor)))
   pub system-some : T (not (empty (m .system)))
-  pub field-bytes : T (every (every fieldByte) (m .arch ∷ m .vendor ∷ m .system ∷ m .environment ∷ m .processor ∷ []))
+  pub field-bytes : T (every (every fieldByte) (m .arch ∷ m .vendor ∷ m .system ∷ m .environment ∷ []))
+  pub processor-shaped : T (processorShaped (m .processor))
   pub all-named : T (every named (m .features))
   pub in-order : T (risingBy byName (m .features))
   pub few : T (leb (length (m .features)) 8)
@@ -77,7 +78,7 @@ pub record Proper (m : Meaning) : Type 0 where
 
 pub parts : (m : Meaning) → T (proper m) → Proper m
 unfolding proper
-parts m t = search (and-l, and-r) depth 12
+parts m t = search (and-l, and-r) depth 13
 
 -- ---- bytes
 
@@ -89,9 +90,26 @@ pub no-dash : T (fieldByte (code "-")) → ⊥
 unfolding fieldByte nameByte
 no-dash t = t
 
+field-processor : (x : ℕ) → T (fieldByte x) → T (processorByte x)
+unfolding processorByte
+field-processor x t = or-l (fieldByte x) (eqb x (code "-")) t
+
+colon-no-processor : T (processorByte (code ":")) → ⊥
+unfolding processorByte fieldByte nameByte
+colon-no-processor t = t
+
+processor-not-colon : (x : ℕ) → T (processorByte x) → T (notColon x)
+processor-not-colon = avoids (code ":") processorByte colon-no-processor
+
 pub field-not-colon : (x : ℕ) → T (fieldByte x) → T (notColon x)
-unfolding fieldByte nameByte otherThan
-field-not-colon x t = of-true (not (eqb x (code ":"))) (ap not (is-false (eqb x (code ":")) λ e. subst (λ y. T (fieldByte y)) (eqb→eq x (code ":") e) t))
+field-not-colon x t = processor-not-colon x (field-processor x t)
+
+-- a field has the bytes of a processor, and a processor no ':'
+pub as-processor : (f : List ℕ) → T (every fieldByte f) → T (every processorByte f)
+as-processor = every-imp fieldByte processorByte field-processor
+
+pub processor-plain : (p : List ℕ) → T (every processorByte p) → T (every notColon p)
+processor-plain = every-imp processorByte notColon processor-not-colon
 
 name-field : (x : ℕ) → T (nameByte x) → T (fieldByte x)
 unfolding fieldByte
@@ -109,19 +127,38 @@ pub kind-bytes : (k : List ℕ) → T (any (same k) kinds) → T (every fieldByt
 unfolding kinds every fieldByte nameByte
 kind-bytes k t = any-holds (every fieldByte) k kinds t tt
 
+pub shaped-bytes : (p : List ℕ) → T (processorShaped p) → T (every processorByte p)
+unfolding processorShaped
+shaped-bytes p t = search (and-l, and-r)
+
+-- the fields before the processor
+unfoldable pub fiveFields : Meaning → List (List ℕ)
+fiveFields m = m .kind ∷ m .arch ∷ m .vendor ∷ m .system ∷ m .environment ∷ []
+
 -- what makes a text that is written readable
 pub record Plain (m : Meaning) : Type 0 where
-  pub all-fields : T (every (every fieldByte) (sixFields m))
+  pub all-fields : T (every (every fieldByte) (fiveFields m))
+  pub environment-plain : namesProcessor (m .environment) ≡ false
+  pub processor-bytes : T (every processorByte (m .processor))
   pub all-named : T (every named (m .features))
   pub in-order : T (risingBy byName (m .features))
 
-pub plain : (m : Meaning) → Proper m → Plain m
-unfolding every sixFields
-plain m h = record {
+pub plain : (m : Meaning) → Proper m → namesProcessor (m .environment) ≡ false → Plain m
+unfolding every fiveFields
+plain m h e = record {
   all-fields = and-t (every fieldByte (m .kind)) _ (kind-bytes (m .kind) (h .kind-in)) (h .field-bytes);
+  environment-plain = e;
+  processor-bytes = shaped-bytes (m .processor) (h .processor-shaped);
   all-named = h .all-named;
   in-order = h .in-order;
 }
+
+-- no environment that is read begins like a processor
+pub environment-plain : (x : List ℕ) → namesProcessor (meaning x .environment) ≡ false
+unfolding meaning meaningOf fifthIsProcessor namesProcessor same
+environment-plain x =
+    let f = getD (fieldsOf x) 4 [] in
+    cond-case (λ e. namesProcessor e ≡ false) (namesProcessor f) [] f (λ t. refl) (λ n. is-false (namesProcessor f) n)
 
 join-every : (c : ℕ) (p : ℕ → Bool) → T (p c) → (fs : List (List ℕ)) → T (every (every p) fs) → T (every p (joinWith c fs))
 unfolding every joinWith
@@ -130,6 +167,15 @@ join-every c p s (f ∷ []) t = and-l (every p f) true t
 join-every c p s (f ∷ g ∷ fs) t =
     every-append p f (c ∷ joinWith c (g ∷ fs)) (and-l (every p f) (every (every p) (g ∷ fs)) t)
     (and-t (p c) (every p (joinWith c (g ∷ fs))) s (join-every c p s (g ∷ fs) (and-r (every p f) (every (every p) (g ∷ fs)) t)))
+
+-- fields, and one that may hold hyphens
+pub join-not-colon : (fs : List (List ℕ)) (p : List ℕ) → T (every (every fieldByte) fs) → T (every notColon p) → T (every notColon (joinWith (code "-") (fs ++ p ∷ [])))
+unfolding otherThan every
+join-not-colon fs p f c =
+    join-every (code "-") notColon tt (fs ++ p ∷ [])
+    (every-append (every notColon) fs (p ∷ [])
+    (every-imp (every fieldByte) (every notColon) (every-imp fieldByte notColon field-not-colon) fs f)
+    (and-t (every notColon p) true c tt))
 
 sign-not-colon : (b : Bool) → T (every notColon (sign b ∷ []))
 unfolding sign every otherThan
@@ -150,13 +196,14 @@ pieces-not-colon (f ∷ fs) t = and-t (every notColon (piece f)) _ (piece-not-co
 
 -- ---- the text that is written
 
-abbrev withFeatures : Meaning → List Feature → Meaning
-withFeatures m l = record { kind = m .kind; arch = m .arch; vendor = m .vendor; system = m .system; environment = m .environment; processor = m .processor; features = l }
-
 length-join : (c : ℕ) (f : List ℕ) (fs : List (List ℕ)) → length f ≤ length (joinWith c (f ∷ fs))
 unfolding joinWith
 length-join c f [] = omega arith
 length-join c f (g ∷ fs) = omega (arith, length-append f (c ∷ joinWith c (g ∷ fs)))
+
+-- six fields out of those that a head is cut into: the sixth runs on
+unfoldable pub sixOf : List (List ℕ) → List (List ℕ)
+sixOf fs = take 5 fs ++ joinWith (code "-") (drop 5 fs) ∷ []
 
 main : Meaning → List ℕ
 main m = joinWith (code "-") (sixFields m)
@@ -168,24 +215,29 @@ write-some m =
 
 module _ (m : Meaning) (h : Plain m) where
   main-not-colon : T (every notColon (main m))
-  unfolding main otherThan
-  main-not-colon = join-every (code "-") notColon tt (sixFields m) (every-imp (every fieldByte) (every notColon) (every-imp fieldByte notColon field-not-colon) (sixFields m) (h .all-fields))
+  unfolding main sixFields fiveFields
+  main-not-colon = join-not-colon (fiveFields m) (m .processor) (h .all-fields) (processor-plain (m .processor) (h .processor-bytes))
 
   cut : splitOn (code ":") (canonicalOf m) ≡ main m ∷ map piece (m .features)
   unfolding canonicalOf main every
   cut = split-join (code ":") notColon no-colon (main m) (map piece (m .features)) (and-t (every notColon (main m)) _ main-not-colon (pieces-not-colon (m .features) (h .all-named)))
 
-  -- the six fields, out of the canonical form's head
-  pub head-cut : splitOn (code "-") (joinWith (code "-") (sixFields m)) ≡ sixFields m
-  unfolding sixFields
-  head-cut = split-join (code "-") fieldByte no-dash (m .kind) (m .arch ∷ m .vendor ∷ m .system ∷ m .environment ∷ m .processor ∷ []) (h .all-fields)
+  -- the canonical form's head, cut: the processor is cut too
+  head-cut : splitOn (code "-") (joinWith (code "-") (sixFields m)) ≡ fiveFields m ++ splitOn (code "-") (m .processor)
+  unfolding sixFields fiveFields
+  head-cut = split-join-last (code "-") fieldByte no-dash (fiveFields m) (m .processor) (h .all-fields)
+
+  -- the six fields, out of it
+  pub six-back : sixOf (splitOn (code "-") (joinWith (code "-") (sixFields m))) ≡ sixFields m
+  unfolding sixOf sixFields fiveFields
+  six-back = rw head-cut (ap (λ p. fiveFields m ++ p ∷ []) (join-split (code "-") (m .processor)))
 
   -- what stands before the first ':' of the canonical form
   pub head-write : getD (splitOn (code ":") (canonicalOf m)) 0 [] ≡ joinWith (code "-") (sixFields m)
   unfolding main
   head-write = rw cut
 
-  fields-back : fieldsOf (canonicalOf m) ≡ sixFields m
+  fields-back : fieldsOf (canonicalOf m) ≡ fiveFields m ++ splitOn (code "-") (m .processor)
   unfolding fieldsOf main
   fields-back = rw cut head-cut
 
@@ -197,19 +249,28 @@ module _ (m : Meaning) (h : Plain m) where
   features-back = rw (features-pieces (m .features)) (sort-rising byName (m .features) (h .in-order))
 
   pub meaning-write : meaning (canonicalOf m) ≡ m
-  unfolding meaning meaningOf sixFields fifthIsProcessor
-  meaning-write = rw (fields-back, pieces-back) (ap (λ (l : List Feature). withFeatures m l) features-back)
+  unfolding meaning meaningOf fiveFields fifthIsProcessor
+  meaning-write =
+      rw (fields-back, pieces-back, h .environment-plain)
+      (λ i. record {
+        kind = m .kind;
+        arch = m .arch;
+        vendor = m .vendor;
+        system = m .system;
+        environment = m .environment;
+        processor = join-split (code "-") (m .processor) i;
+        features = features-back i;
+      })
 
-  length-fields : length (fieldsOf (canonicalOf m)) ≡ 6
-  unfolding sixFields
-  length-fields = rw fields-back
+  least-fields : 4 ≤ length (fieldsOf (canonicalOf m))
+  unfolding fiveFields
+  least-fields = rw fields-back (omega arith)
 
   shaped-write : T (leb (length (canonicalOf m)) 256) → T (shaped (canonicalOf m))
   unfolding shaped
   shaped-write fits =
       let some : T (leb 1 (length (canonicalOf m))) = le→leb 1 (length (canonicalOf m)) (write-some m) in
-      let least : T (leb 4 (length (fieldsOf (canonicalOf m)))) = rw length-fields tt in
-      let most : T (leb (length (fieldsOf (canonicalOf m))) 6) = rw length-fields tt in
+      let least : T (leb 4 (length (fieldsOf (canonicalOf m)))) = le→leb 4 (length (fieldsOf (canonicalOf m))) least-fields in
       let signs : T (every signed (piecesOf (canonicalOf m))) = rw pieces-back (all-signed (m .features)) in
       search and-t
 
@@ -225,7 +286,7 @@ module _ (x : List ℕ) (v : T (valid x)) where
   proper-meaning = and-r (shaped x) (proper (meaning x)) v
 
   pub plain-meaning : Plain (meaning x)
-  plain-meaning = plain (meaning x) (parts (meaning x) proper-meaning)
+  plain-meaning = plain (meaning x) (parts (meaning x) proper-meaning) (environment-plain x)
 
   pub read-back : meaning (canonicalOf (meaning x)) ≡ meaning x
   read-back = meaning-write (meaning x) plain-meaning

@@ -8,15 +8,16 @@ use native.Mathlib.Omega.{arith}
 use lib.ListN.{length, getD, take, drop, drop-of-length-le, length-take, length-drop, take-append-drop, List·getD-eq-default}
 use lib.Seq.{take-suc, take-all, drop-cons, drop-drop, getD-drop, length-take-le, take-add}
 use lib.Dec.{T, ltb}
-use borrow.Author.Tests.{eqb-true, eq-eqb, ltb-true, ltb-false, lt-ltb, le-ltb, not-false}
+use borrow.Author.Tests.{eqb-true, eqb-false, eq-eqb, ltb-true, ltb-false, lt-ltb, le-ltb, not-false}
 use Rattle.wire.specs.Lists.{every}
 use Rattle.wire.specs.Bytes.{empty, bytes}
-use Rattle.entry_id.specs.Meaning.{namesProcessor}
-use Rattle.entry_id.specs.Text.{splitOn, otherThan}
+use Rattle.entry_id.specs.Meaning.{piecesOf, namesProcessor}
+use Rattle.entry_id.specs.Canonical.{headOf}
+use Rattle.entry_id.specs.Text.{splitOn, otherThan, notColon}
 use Rattle.wire.proofs.Bools.{and-t, of-true, cases}
 use Rattle.entry_id.proofs.TextLaws.{every-append, split-last, split-skip}
 use Rattle.wire.proofs.ByteLaws.{same-length}
-use Rattle.entry_id.specs.Scan.{part, Run, piecesAt}
+use Rattle.entry_id.specs.Scan.{part, Run, endsAt, piecesAt}
 
 -- ---- parts
 
@@ -70,6 +71,15 @@ module _ (p : ℕ → Bool) (x : List ℕ) (a : ℕ) where
       rw (part-more x 0 a i h k)
       (every-append p (part x a i) (getD x i 0 ∷ []) t (and-t (p (getD x i 0)) true (of-true (p (getD x i 0)) e) tt))
 
+-- a run that goes on
+pub run-on : (p : ℕ → Bool) (x : List ℕ) (a e r : ℕ) → a ≤ e → T (every p (part x a e)) → Run p x e r → Run p x a r
+run-on p x a e r h t s = record {
+  low = omega (arith, s .low);
+  high = s .high;
+  passed = rw (part-split x a e r h (s .low)) (every-append p (part x a e) (part x e r) t (s .passed));
+  stop = s .stop;
+}
+
 -- a run from the start of what follows a
 pub run-behind : (p : ℕ → Bool) (x : List ℕ) (a r : ℕ) → a ≤ length x → Run p (drop a x) 0 r → Run p x a (a + r)
 unfolding part
@@ -101,6 +111,41 @@ cut-run c x a r h =
   where
     other : T (otherThan c c) → ⊥
     other t = rw (eq-eqb c c refl) at t
+
+-- ---- where the head ends
+
+module _ (x : List ℕ) (i : ℕ) where
+  pub goes-on : endsAt x i ≡ false → (i < length x) × (getD x i 0 ≡ 58 → ⊥)
+  unfolding endsAt
+  goes-on e = elim (cases (ltb i (length x))) [
+    | inl h ↦ (ltb-true i (length x) h, eqb-false (getD x i 0) 58 (rw h at e))
+    | inr h ↦ let z : _≡_ {A = Bool} true false = rw h at e in absurd (subst T z tt)
+  ]
+
+  pub stop-here : endsAt x i ≡ true → i < length x → notColon (getD x i 0) ≡ false
+  unfolding otherThan endsAt
+  stop-here e k = ap not (rw (lt-ltb i (length x) k) at e)
+
+module _ (x : List ℕ) (a r : ℕ) (h : Run notColon x a r) where
+  pub head-stops : endsAt x r ≡ true
+  unfolding endsAt otherThan
+  head-stops = elim (cases (ltb r (length x))) [
+    | inl e ↦ rw e (not-false _ (h .stop (ltb-true r (length x) e)))
+    | inr e ↦ rw e
+  ]
+
+  -- the text from a on starts with the piece up to r
+  pub cut-piece : splitOn 58 (drop a x) ≡ part x a r ∷ piecesAt x r
+  unfolding piecesAt
+  cut-piece = cut-run 58 x a r h
+
+  pub head-part : headOf (drop a x) ≡ part x a r
+  unfolding headOf
+  head-part = ap (λ (l : List (List ℕ)). getD l 0 []) cut-piece
+
+  pub pieces-part : piecesOf (drop a x) ≡ piecesAt x r
+  unfolding piecesOf
+  pieces-part = ap (λ (l : List (List ℕ)). drop 1 l) cut-piece
 
 -- ---- bytes
 

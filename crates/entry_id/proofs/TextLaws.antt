@@ -1,12 +1,12 @@
 -- Laws of texts: every byte, cutting and joining. Assumes nothing.
 use Prim.Native.Nat.{ℕ, _+_}
 use mathlib.Core.Path.{_≡_, refl, sym, ap, _∙_, subst}
-use mathlib.Core.Bool.{Bool, true, false}
+use mathlib.Core.Bool.{Bool, true, false, not}
 use mathlib.Core.List.{List, [], _∷_, _++_}
 use lib.Dec.{T, eqb, eqb→eq, eqb-refl}
 use Rattle.wire.specs.Lists.{every}
-use Rattle.wire.proofs.Bools.{and-l, and-r, and-t, is-true, is-false, cond-ind, cond-case}
-use Rattle.entry_id.specs.Text.{onFirst, splitOn, joinWith}
+use Rattle.wire.proofs.Bools.{and-l, and-r, and-t, is-true, is-false, of-true, cond-ind, cond-case}
+use Rattle.entry_id.specs.Text.{onFirst, splitOn, joinWith, otherThan}
 
 -- ---- every, any
 
@@ -20,11 +20,20 @@ unfolding every
 every-append p [] b s t = t
 every-append p (x ∷ a) b s t = and-t (p x) (every p (a ++ b)) (and-l (p x) (every p a) s) (every-append p a b (and-r (p x) (every p a) s) t)
 
+pub every-start : {A : Type 0} (p : A → Bool) (a b : List A) → T (every p (a ++ b)) → T (every p a)
+unfolding every
+every-start p [] b t = tt
+every-start p (x ∷ a) b t = and-t (p x) (every p a) (and-l (p x) (every p (a ++ b)) t) (every-start p a b (and-r (p x) (every p (a ++ b)) t))
+
 -- ---- cutting and joining
 
 module _ (c : ℕ) (p : ℕ → Bool) (no : T (p c) → ⊥) where
   misses : (x : ℕ) → T (p x) → eqb x c ≡ false
   misses x t = is-false (eqb x c) (λ e. no (subst (λ (y : ℕ). T (p y)) (eqb→eq x c e) t))
+
+  pub avoids : (x : ℕ) → T (p x) → T (otherThan c x)
+  unfolding otherThan
+  avoids x t = of-true (not (eqb x c)) (ap not (misses x t))
 
   pub split-last : (f : List ℕ) → T (every p f) → splitOn c f ≡ f ∷ []
   unfolding splitOn every onFirst
@@ -47,6 +56,15 @@ module _ (c : ℕ) (p : ℕ → Bool) (no : T (p c) → ⊥) where
   split-join f (g ∷ fs) t =
       rw (split-skip f (joinWith c (g ∷ fs)) (and-l (every p f) (every (every p) (g ∷ fs)) t))
       (ap (λ r. f ∷ r) (split-join g fs (and-r (every p f) (every (every p) (g ∷ fs)) t)))
+
+  -- the last piece may hold c's
+  pub split-join-last : (fs : List (List ℕ)) (q : List ℕ) → T (every (every p) fs) → splitOn c (joinWith c (fs ++ q ∷ [])) ≡ fs ++ splitOn c q
+  unfolding joinWith every
+  split-join-last [] q t = refl
+  split-join-last (f ∷ []) q t = split-skip f q (and-l (every p f) true t)
+  split-join-last (f ∷ g ∷ fs) q t =
+      rw (split-skip f (joinWith c (g ∷ fs ++ q ∷ [])) (and-l (every p f) (every (every p) (g ∷ fs)) t))
+      (ap (λ r. f ∷ r) (split-join-last (g ∷ fs) q (and-r (every p f) (every (every p) (g ∷ fs)) t)))
 
 first-some : (x : ℕ) (ps : List (List ℕ)) → (q : List ℕ) × (qs : List (List ℕ)) × (onFirst x ps ≡ q ∷ qs)
 unfolding onFirst

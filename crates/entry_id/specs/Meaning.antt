@@ -45,17 +45,18 @@ piecesOf x = drop 1 (splitOn (code ":") x)
 unfoldable pub namesProcessor : List ℕ → Bool
 namesProcessor f = same (take 3 f) (bytes "gfx") || same (take 3 f) (bytes "sm_")
 
--- "Five fields: if the fifth begins with `gfx` or `sm_` it is the processor and the environment is empty"
+-- "if the fifth field begins with `gfx` or `sm_`, the processor starts there"
 unfoldable pub fifthIsProcessor : List (List ℕ) → Bool
-fifthIsProcessor fs = eqb (length fs) 5 && namesProcessor (getD fs 4 [])
+fifthIsProcessor fs = namesProcessor (getD fs 4 [])
 
 -- "is a feature: a name .., then `+` (on) or `-` (off)": the last byte is the sign
 unfoldable pub feature : List ℕ → Feature
 feature p = record { name = take (length p - 1) p; on = eqb (getD p (length p - 1) 0) (code "+") }
 
--- the meaning of a text with these fields and pieces. "Four fields: kind, arch, vendor, system. Five fields: .. otherwise [the fifth] is the
--- environment and there is no processor. Six fields: .., environment, processor; an empty sixth means no processor." The features stand "in byte
--- order of their names, a shorter name before a longer one that begins with it".
+-- the meaning of a text with these fields and pieces: kind, arch, vendor, system; then "if the fifth field begins with `gfx` or `sm_`, the processor
+-- starts there and runs, hyphens included, to the first `:` or the end, and the environment is empty. Otherwise the sixth field starts it and it runs
+-- on likewise." Fields that are not there are empty, and "an empty sixth means no processor". The features stand "in byte order of their names, a
+-- shorter name before a longer one that begins with it".
 unfoldable pub meaningOf : List (List ℕ) → List (List ℕ) → Meaning
 meaningOf fs ps = record {
   kind = getD fs 0 [];
@@ -63,7 +64,7 @@ meaningOf fs ps = record {
   vendor = getD fs 2 [];
   system = getD fs 3 [];
   environment = cond (fifthIsProcessor fs) [] (getD fs 4 []);
-  processor = cond (fifthIsProcessor fs) (getD fs 4 []) (getD fs 5 []);
+  processor = joinWith (code "-") (cond (fifthIsProcessor fs) (drop 4 fs) (drop 5 fs));
   features = sortBy byName (map feature ps);
 }
 
@@ -99,6 +100,14 @@ nameByte x = between (code "a") (code "z") x || between (code "0") (code "9") x 
 unfoldable pub fieldByte : ℕ → Bool
 fieldByte x = nameByte x || between (code "A") (code "Z") x || eqb x (code ".")
 
+-- the bytes of a processor: those of fields, and the hyphens between them
+unfoldable pub processorByte : ℕ → Bool
+processorByte x = fieldByte x || eqb x (code "-")
+
+-- "A processor neither begins nor ends with a hyphen."
+unfoldable pub processorShaped : List ℕ → Bool
+processorShaped p = every processorByte p && not (eqb (getD p 0 0) (code "-")) && not (eqb (getD p (length p - 1) 0) (code "-"))
+
 -- "Kind is exactly `host`, `hip`, `hipv4` or `openmp`."
 unfoldable pub kinds : List (List ℕ)
 kinds = bytes "host" ∷ bytes "hip" ∷ bytes "hipv4" ∷ bytes "openmp" ∷ []
@@ -110,20 +119,22 @@ signed p = let s = getD p (length p - 1) 0 in eqb s (code "+") || eqb s (code "-
 unfoldable pub named : Feature → Bool
 named f = not (empty (f .name)) && every nameByte (f .name)
 
--- what the rules ask of the text: "Entry ID: 1 to 256 bytes"; four to six fields, "Any other number is refused"; each piece has a sign
+-- what the rules ask of the text: "Entry ID: 1 to 256 bytes"; at least four fields ("Seven or more fields are no longer refused for their number");
+-- each piece has a sign
 unfoldable pub shaped : List ℕ → Bool
 shaped x =
     leb 1 (length x) && leb (length x) 256
-    && leb 4 (length (fieldsOf x)) && leb (length (fieldsOf x)) 6
+    && leb 4 (length (fieldsOf x))
     && every signed (piecesOf x)
 
--- what the rules ask of the meaning: the kind; "Arch, vendor and system are not empty"; the bytes of fields and of names; "A name stated twice
--- is refused": in order, each name stands before the next (the theorem `stated-once` has it on the text); "Features in an ID: 8"; "refused .. so is a feature without a processor"; "its canonical form at most 256" bytes
+-- what the rules ask of the meaning: the kind; "Arch, vendor and system are not empty"; the bytes of fields, of the processor and of names; the
+-- processor's two ends; "A name stated twice is refused": in order, each name stands before the next (the theorem `stated-once` has it on the text);
+-- "Features in an ID: 8"; "refused .. so is a feature without a processor"; "its canonical form at most 256" bytes
 unfoldable pub proper : Meaning → Bool
 proper m =
     any (same (m .kind)) kinds
     && not (empty (m .arch)) && not (empty (m .vendor)) && not (empty (m .system))
-    && every (every fieldByte) (m .arch ∷ m .vendor ∷ m .system ∷ m .environment ∷ m .processor ∷ [])
+    && every (every fieldByte) (m .arch ∷ m .vendor ∷ m .system ∷ m .environment ∷ []) && processorShaped (m .processor)
     && every named (m .features) && risingBy byName (m .features) && leb (length (m .features)) 8
     && (not (empty (m .processor)) || empty (m .features))
     && leb (length (canonicalOf m)) 256

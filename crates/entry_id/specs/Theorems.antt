@@ -1,17 +1,19 @@
 -- What is proved of entry IDs, as one record: proofs/Theorems.antt has its proof. Statements only.
 use Prim.Native.Nat.{ℕ, _≤_}
+use Prim.Native.Char.{code}
 use mathlib.Core.Path.{_≡_}
 use mathlib.Core.Logic.{_↔_}
 use mathlib.Core.Bool.{Bool, false, not, _&&_, _||_}
-use mathlib.Core.List.{List, [], _++_, map, List·Memᴰ}
+use mathlib.Core.List.{List, [], _∷_, _++_, map, List·Memᴰ}
 use lib.ListN.{length}
 use lib.Dec.{T}
 use Rattle.wire.specs.Lists.{any, every}
 use Rattle.wire.specs.Bytes.{bytes, same}
 use Rattle.wire.specs.Order.{risingBy, distinctBy}
-use Rattle.entry_id.specs.Meaning.{byName, Feature, Meaning, piecesOf, feature, meaning, valid, canon}
+use Rattle.entry_id.specs.Text.{joinWith, notColon}
+use Rattle.entry_id.specs.Meaning.{byName, Feature, Meaning, piecesOf, namesProcessor, feature, meaning, fieldByte, valid, canon}
 use Rattle.entry_id.specs.Compare.{comparedKind, comparedAs, compatible, sameMeaning, mixed, sameNames}
-use Rattle.entry_id.specs.Canonical.{compatibleText, sameText, mixedText}
+use Rattle.entry_id.specs.Canonical.{headOf, compatibleText, sameText, mixedText}
 
 -- a feature of this name is among them
 unfoldable pub nameIn : Feature → List Feature → Bool
@@ -66,3 +68,15 @@ pub record OneKind : Type 0 where
   pub mixed-either : (t : List ℕ) (b : Meaning) → mixed (meaning (hipId t)) b ≡ mixed (meaning (hipv4Id t)) b
   -- "The canonical form keeps the kind as spelled": those of the two spellings are different
   pub kept : (t u : List ℕ) → T (valid (hipId t)) → T (valid (hipv4Id u)) → canon (hipId t) ≡ canon (hipv4Id u) → ⊥
+
+-- Where the processor starts and how far it runs, on the text itself: behind it stands r, which is empty or begins with a `:`.
+pub record ProcessorRuns : Type 0 where
+  -- "if the fifth field begins with `gfx` or `sm_`, the processor starts there and runs, hyphens included, to the first `:` or the end, and the
+  -- environment is empty"
+  pub fifth : (k a v s p r : List ℕ) → T (every (every fieldByte) (k ∷ a ∷ v ∷ s ∷ [])) → T (every notColon p) → headOf r ≡ [] → T (namesProcessor p)
+      → let m = meaning (joinWith (code "-") (k ∷ a ∷ v ∷ s ∷ p ∷ []) ++ r) in (m .environment ≡ []) × (m .processor ≡ p)
+  -- "Otherwise the sixth field starts it and it runs on likewise."
+  pub sixth : (k a v s e p r : List ℕ) → T (every (every fieldByte) (k ∷ a ∷ v ∷ s ∷ e ∷ [])) → T (every notColon p) → headOf r ≡ [] → namesProcessor e ≡ false
+      → let m = meaning (joinWith (code "-") (k ∷ a ∷ v ∷ s ∷ e ∷ p ∷ []) ++ r) in (m .environment ≡ e) × (m .processor ≡ p)
+  -- so no environment begins like a processor
+  pub environment : (x : List ℕ) → namesProcessor (meaning x .environment) ≡ false

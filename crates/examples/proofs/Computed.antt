@@ -8,7 +8,7 @@ use Rattle.wire.specs.First.{first, anyBelow}
 use Rattle.wire.specs.Stop.{_⨾_, stopWhen, stopIf, stopAt, earlier}
 use Rattle.entry_id.specs.Text.{onFirst, splitOn, joinWith}
 use Rattle.entry_id.specs.Meaning.{fieldsOf, piecesOf, namesProcessor, fifthIsProcessor, feature, meaningOf, meaning, sign, piece, sixFields, canonicalOf}
-use Rattle.entry_id.specs.Meaning.{nameByte, fieldByte, kinds, signed, named, shaped, proper, valid, canon}
+use Rattle.entry_id.specs.Meaning.{nameByte, fieldByte, processorByte, processorShaped, kinds, signed, named, shaped, proper, valid, canon}
 use Rattle.entry_id.specs.Compare.{comparedKind, comparedAs, sameTarget, sameFeature, compatible, sameNames, sameMeaning, mixed}
 use Rattle.entry_id.specs.Rules.{idRules}
 use Rattle.bundle.specs.Table.{magic, count, rowStart, rowAt, row, tableEnd}
@@ -25,7 +25,7 @@ use Rattle.offload_binary.specs.Reader as reader
 use Rattle.examples.specs.Examples.{Examples}
 
 pub examples : Examples
-unfolding empty same before every any agree total insertBy sortBy risingBy bytesOf wordOf word first anyBelow _⨾_ stopWhen stopIf stopAt earlier onFirst splitOn joinWith fieldsOf piecesOf namesProcessor fifthIsProcessor feature meaningOf meaning sign piece sixFields canonicalOf nameByte fieldByte kinds signed named shaped proper valid canon comparedKind comparedAs sameTarget sameFeature compatible sameNames sameMeaning mixed idRules magic count rowStart rowAt row tableEnd badRow outside shareByte sameSpan overlaps overlapStop headStop tableStop unrefused badId meanSame mix rowsStop bundleStop check compatibleAt chosen pickStop pick tab imageOf entryOf entriesOf rowBytes table bundle packedEnd packedLength images packed encode entryStop entryAt roomStop answer normal normalLength normaliseStop normalise lists.slots binary.bytesAt binary.run binary.ended binary.sizeOf binary.entryAt binary.own binary.entryOf binary.keyAt binary.textAt binary.stringAt binary.pair binary.key binary.badHead binary.badSpan binary.badKinds binary.badTable binary.badString binary.badPair binary.badStrings binary.badImage binary.bodyStop binary.binaryStop binary.handsBack binary.binary binary.binaryAt contents.fieldBytes contents.texts contents.stringBytes contents.offsets contents.up8 contents.zeros contents.stringsStart contents.stringsEnd contents.imageStart contents.imageEnd contents.binarySize contents.headFields contents.written reader.nextStop reader.next reader.cursorAfter reader.answer
+unfolding empty same before every any agree total insertBy sortBy risingBy bytesOf wordOf word first anyBelow _⨾_ stopWhen stopIf stopAt earlier onFirst splitOn joinWith fieldsOf piecesOf namesProcessor fifthIsProcessor feature meaningOf meaning sign piece sixFields canonicalOf nameByte fieldByte processorByte processorShaped kinds signed named shaped proper valid canon comparedKind comparedAs sameTarget sameFeature compatible sameNames sameMeaning mixed idRules magic count rowStart rowAt row tableEnd badRow outside shareByte sameSpan overlaps overlapStop headStop tableStop unrefused badId meanSame mix rowsStop bundleStop check compatibleAt chosen pickStop pick tab imageOf entryOf entriesOf rowBytes table bundle packedEnd packedLength images packed encode entryStop entryAt roomStop answer normal normalLength normaliseStop normalise lists.slots binary.bytesAt binary.run binary.ended binary.sizeOf binary.entryAt binary.own binary.entryOf binary.keyAt binary.textAt binary.stringAt binary.pair binary.key binary.badHead binary.badSpan binary.badKinds binary.badTable binary.badString binary.badPair binary.badStrings binary.badImage binary.bodyStop binary.binaryStop binary.handsBack binary.binary binary.binaryAt contents.fieldBytes contents.texts contents.stringBytes contents.offsets contents.up8 contents.zeros contents.stringsStart contents.stringsEnd contents.imageStart contents.imageEnd contents.binarySize contents.headFields contents.written reader.nextStop reader.next reader.cursorAfter reader.answer
 examples = record {
   empty-bundle = refl;
   empty-binaries = refl;

@@ -45,15 +45,38 @@ pub(crate) fn card_forms() {
     );
 }
 
-// Six fields, of which five would read back as others; four fields.
+// Six fields, the last one empty; four fields.
 pub(crate) fn field_forms() {
     expect_form(
-        b"openmp-a-b-c-gfxenv-",
-        &mut [b'.'; 24],
-        20,
-        b"openmp-a-b-c-gfxenv-....",
+        b"openmp-a-b-c-gnu-",
+        &mut [b'.'; 20],
+        17,
+        b"openmp-a-b-c-gnu-...",
     );
     expect_form(b"hipv4-a-b-c", &mut [b'.'; 13], 13, b"hipv4-a-b-c--");
+}
+
+// A processor with hyphens, which starts with the fifth field or with the sixth.
+pub(crate) fn processor_forms() {
+    expect_form(
+        b"hip-amdgcn-amd-amdhsa-gfx9-generic:xnack-",
+        &mut [b'.'; 42],
+        42,
+        b"hip-amdgcn-amd-amdhsa--gfx9-generic:xnack-",
+    );
+    expect_form(
+        b"hip-a-b-c-gnu-gfx9--x",
+        &mut [b'.'; 22],
+        21,
+        b"hip-a-b-c-gnu-gfx9--x.",
+    );
+}
+
+// A processor that begins or ends with a hyphen.
+pub(crate) fn no_processors() {
+    expect_form(b"hip-a-b-c-gfxenv-", &mut [b'.'; 32], 0, &[b'.'; 32]);
+    expect_form(b"hip-a-b-c-gnu--x", &mut [b'.'; 32], 0, &[b'.'; 32]);
+    expect_form(b"hip-a-b-c-gnu-x-", &mut [b'.'; 32], 0, &[b'.'; 32]);
 }
 
 // A feature without a processor; a name stated twice.

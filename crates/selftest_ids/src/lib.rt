@@ -15,6 +15,8 @@ pub fn run() {
     ids::host_forms();
     ids::card_forms();
     ids::field_forms();
+    ids::processor_forms();
+    ids::no_processors();
     ids::no_features();
     ids::no_kinds();
     ids::standings();

@@ -1,10 +1,14 @@
 //! The comparison itself: against the model it finds nothing and meets every line; against a library with a slip it finds it.
 
+mod processors;
+
 use super::*;
 use crate::calls::{BundleCalls, MODEL, MODEL_BINARY_READER, MODEL_BINARY_WRITER, MODEL_BUNDLE_WRITER};
 use crate::gen::{binary_contents, records};
 use crate::model::binary_writer::Content;
-use crate::model::bundle::{check, composition, entries, entry_at, normalise, packed, pick, Checked, Located, Picked};
+use crate::model::bundle::{
+    check, composition, entries, entry_at, normalise, packed, pick, Checked, Entry, Located, Picked,
+};
 use crate::model::bundle_writer::Record;
 use crate::model::id::{canonical, compared_kind, compatible, meaning, same_target, Meaning};
 use crate::model::{integer, part, refuse_at, Refusal, COUNT, LENGTH, MIXED, NONE, OVERLAP, RANGE, TWICE};
@@ -18,7 +22,7 @@ fn run_generated(family: &mut dyn Family, cases: u64) -> Result<(), Difference> 
 
 fn meets_every_line(mut family: impl Family) {
     family.run_fixed().unwrap();
-    run_generated(&mut family, 4000).unwrap();
+    run_generated(&mut family, 8000).unwrap();
     assert_eq!(family.report().missing_lines(), Vec::<String>::new());
 }
 
@@ -195,8 +199,14 @@ fn pick_taken(kinds: Kinds, bundle: &[u8], device: &[u8]) -> Picked {
     if ![OK, NONE].contains(&picked.number) {
         return picked;
     }
-    let (rows, device) = (rows(bundle), taken(kinds, device));
-    match rows.iter().position(|row| compatible(&taken(kinds, row.2), &device)) {
+    let device = taken(kinds, device);
+    pick_where(|id| compatible(&taken(kinds, id), &device), bundle)
+}
+
+/// What a pick answers that takes the first entry with such an ID.
+fn pick_where(fits: impl Fn(&[u8]) -> bool, bundle: &[u8]) -> Picked {
+    let rows = rows(bundle);
+    match rows.iter().position(|row| fits(row.2)) {
         None => Picked { number: NONE, ..Picked::default() },
         Some(at) => Picked { number: OK, place: 0, index: at as u64, position: rows[at].0, size: rows[at].1 },
     }
@@ -421,13 +431,19 @@ fn calls_that_leave_out_overlaps_are_found() {
 
 /// A normal form sorted by IDs with some kinds, and written with IDs of others, none longer than as spelled.
 fn normal_form_taken(order: Kinds, written: Kinds, bundle: &[u8], out: &mut [u8], field: Field) -> u64 {
+    let texts = |entry: &Entry| [order, written].map(|kinds| canonical(&taken(kinds, entry.id)));
+    normal_form_by(texts, bundle, out, field)
+}
+
+/// A normal form sorted by the first of two texts of each entry, and written with the second as its ID, which is not too long.
+fn normal_form_by(texts: impl Fn(&Entry) -> [Vec<u8>; 2], bundle: &[u8], out: &mut [u8], field: Field) -> u64 {
     let lawful = normalise(bundle, &mut out.to_vec());
     if lawful.number != OK {
         return field.of(lawful);
     }
-    let mut entries = entries(bundle).unwrap();
-    entries.sort_by_key(|entry| canonical(&taken(order, entry.id)));
-    let entries: Vec<_> = entries.iter().map(|entry| (canonical(&taken(written, entry.id)), entry.image)).collect();
+    let mut entries: Vec<_> = entries(bundle).unwrap().iter().map(|entry| (texts(entry), entry.image)).collect();
+    entries.sort_by(|one, other| one.0[0].cmp(&other.0[0]));
+    let entries: Vec<_> = entries.into_iter().map(|([_, id], image)| (id, image)).collect();
     let bytes = packed(&entries);
     out[..bytes.len()].copy_from_slice(&bytes);
     field.of(Written { number: OK, place: 0, length: bytes.len() as u64 })

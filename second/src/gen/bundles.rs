@@ -2,7 +2,7 @@
 
 mod overlaps;
 
-use super::ids::{self, IdMaker, Meaning, BROKEN, EDGES};
+use super::ids::{self, IdMaker, Meaning};
 use super::images::{self, Span};
 use super::pairs::{self, Pair};
 use super::random::Random;
@@ -367,7 +367,7 @@ fn change_magic(draft: &mut Draft, random: &mut Random) {
 
 /// 4.
 fn table_aims() -> Vec<BundleAim> {
-    vec![
+    let mut aims = vec![
         check(TABLE, "cut inside the table", |draft, random| {
             draft.some_row(random);
             draft.cut = Some(random.between(32, draft.table_end() as usize - 1));
@@ -407,12 +407,9 @@ fn table_aims() -> Vec<BundleAim> {
             let row = draft.rows.last_mut().expect("a row");
             row.id_length = row.id.len() as u64 + 1;
         }),
-        check(TABLE, "ID of 257 bytes", |draft, random| {
-            let at = draft.some_row(random);
-            let id = ids::of_length(random, 6, 257);
-            draft.rows[at].set_id(id);
-        }),
-    ]
+    ];
+    aims.extend(ids::too_long().map(|maker| refused_id(TABLE, maker)));
+    aims
 }
 
 /// Another ID length in some row.
@@ -420,6 +417,15 @@ fn id_length(number: u64, name: &str, length: fn(&Draft, usize, &mut Random) -> 
     Aim::new("check", number, name, move |draft: &mut Draft, random| {
         let at = draft.some_row(random);
         draft.rows[at].id_length = length(draft, at, random);
+    })
+}
+
+/// Some row has an ID that is refused by this number.
+fn refused_id(number: u64, maker: &IdMaker) -> BundleAim {
+    let make = maker.make;
+    Aim::new("check", number, &format!("entry: {}", maker.name), move |draft: &mut Draft, random| {
+        let at = draft.some_row(random);
+        draft.rows[at].set_id(make(random));
     })
 }
 
@@ -432,14 +438,7 @@ fn id_aims() -> Vec<BundleAim> {
             draft.put_id(random, id);
         })
     };
-    let broken = |maker: &IdMaker| {
-        let make = maker.make;
-        Aim::new("check", ID, &format!("entry: {}", maker.name), move |draft: &mut Draft, random| {
-            let at = draft.some_row(random);
-            draft.rows[at].set_id(make(random));
-        })
-    };
-    EDGES.iter().map(edge).chain(BROKEN.iter().map(broken)).collect()
+    ids::edges().map(edge).chain(ids::broken().map(|maker| refused_id(ID, maker))).collect()
 }
 
 /// 6, with the container's length and table end as they will be.
@@ -556,7 +555,6 @@ fn device_aims() -> Vec<BundleAim> {
         pick(OK, "device: one of 64 entries", |draft, random| *draft = Draft::good(random, 64)).large(),
         pick(NONE, "device: no entries", |draft, random| *draft = Draft::good(random, 0)),
         pick(QUERY, "device: no bytes", |draft, _| draft.device.clear()),
-        pick(QUERY, "device: 257 bytes", |draft, random| draft.device = ids::of_length(random, 6, 257)),
         pick(QUERY, "device: above 257 bytes", |draft, random| {
             let length = random.between(258, 2000);
             draft.device = ids::of_length(random, 6, length);
@@ -566,13 +564,13 @@ fn device_aims() -> Vec<BundleAim> {
             draft.device.insert(at, *random.choose(b"-:+. /\0\xff"));
         }),
         pick(NONE, "device: an environment as processor", |draft, random| {
-            draft.put_id(random, b"hip-a-b-c-gfxenv-".to_vec());
-            draft.device = b"hip-a-b-c-gfxenv".to_vec();
+            draft.put_id(random, b"hip-a-b-c-gf-".to_vec());
+            draft.device = b"hip-a-b-c--gf".to_vec();
         }),
     ];
     aims.extend(pairs::devices().into_iter().map(asks));
-    aims.extend(EDGES.iter().map(device_at_edge));
-    aims.extend(BROKEN.iter().map(broken_device));
+    aims.extend(ids::edges().map(device_at_edge));
+    aims.extend(ids::broken().chain(ids::too_long()).map(broken_device));
     aims
 }
 
@@ -655,6 +653,11 @@ fn normal_form_aims() -> Vec<BundleAim> {
         .large(),
         normalise(OK, "hip before hipv4", |draft, random| {
             let pair = pairs::ordered_by_kind(random);
+            draft.put_pair(random, pair);
+            draft.room = Room::Exact;
+        }),
+        normalise(OK, "hyphen before colon", |draft, random| {
+            let pair = pairs::ordered_by_hyphen(random);
             draft.put_pair(random, pair);
             draft.room = Room::Exact;
         }),

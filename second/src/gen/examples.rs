@@ -1,4 +1,5 @@
-//! The examples of RULES B, B.1 to B.13, B.16 and B.17, as cases. `model/examples.rs` says what comes of them.
+//! The examples of RULES B, B.1 to B.13, B.16 and B.17, and processors with hyphens, as cases. `model/examples.rs` says what comes of
+//! them.
 
 use super::{binaries, bundles, Room};
 use crate::model::binary_writer::{write_binary, Content, PairParts};
@@ -68,6 +69,17 @@ pub const XNACK_OFF_V4: &str = "hipv4-amdgcn-amd-amdhsa-gfx906:xnack-";
 pub const XNACK_ON_V4: &str = "hipv4-amdgcn-amd-amdhsa-gfx906:xnack+";
 pub const PLAIN_OPENMP: &str = "openmp-amdgcn-amd-amdhsa-gfx906";
 pub const NO_PROCESSOR: &str = "hip-a-b-c-d-:xnack+";
+pub const GENERIC: &str = "hip-amdgcn-amd-amdhsa-gfx9-generic";
+pub const GENERIC_FORM: &str = "hip-amdgcn-amd-amdhsa--gfx9-generic";
+pub const GENERIC_ON: &str = "hip-amdgcn-amd-amdhsa-gfx9-generic:xnack+";
+pub const GENERIC_OFF: &str = "hip-amdgcn-amd-amdhsa--gfx9-generic:xnack-";
+pub const GFX9_ON: &str = "hip-amdgcn-amd-amdhsa-gfx9:xnack+";
+
+/// IDs with hyphens that are accepted, and IDs whose processor would begin or end with one.
+pub const HYPHENS: &[&str] =
+    &["hip-a-b-c-gfxenv-gfx906", "hip-a-b-c-gfx9--x:a-", "hip-a-b-c-d-e-f", "hip-a-b-c--e-f", "hip-a-b-c-gnu-"];
+pub const HYPHEN_AT_AN_END: &[&str] =
+    &["hip-a-b-c-gfxenv-", "hip-a-b-c-gfx9-x-:a-", "hip-a-b-c-gnu-x-", "hip-a-b-c-gnu--x", "hip-a-b-c-gnu--"];
 
 pub fn bundle_cases() -> Vec<bundles::Case> {
     let case = |bundle: Vec<u8>, device: &str| bundles::Case {
@@ -77,7 +89,7 @@ pub fn bundle_cases() -> Vec<bundles::Case> {
         index: 0,
         room: Room::Exact,
     };
-    vec![
+    let mut cases = vec![
         case(Vec::new(), PLAIN),
         case(bundle(&[]), PLAIN),
         case(bundle(&[(HOST, b"12345")]), HOST),
@@ -115,7 +127,17 @@ pub fn bundle_cases() -> Vec<bundles::Case> {
         case(lying(&[(2, 0), (0, 5)]), "hip-a-b-c-e1"),
         case(lying(&[(0, 5), (4, 5), (40, 1)]), "hip-a-b-c-e1"),
         case(with_images(&[(PLAIN, 0, 5), (PLAIN, 0, 5), (HOST, 4, 5)]), PLAIN),
-    ]
+        case(bundle(&[(GENERIC, b"image")]), GENERIC_FORM),
+        case(bundle(&[(GENERIC_FORM, b"image")]), GENERIC),
+        case(bundle(&[(GENERIC, b""), (GENERIC_FORM, b"")]), GENERIC),
+        case(bundle(&[(GENERIC, b""), (GENERIC_OFF, b"")]), GENERIC),
+        case(bundle(&[(GENERIC_ON, b"on"), (GENERIC_OFF, b"off"), (GFX9_ON, b"other")]), GENERIC_OFF),
+        case(bundle(&[(GENERIC, b"image")]), GFX9_ON),
+    ];
+    cases.extend(HYPHENS.iter().map(|id| case(bundle(&[(id, b"image")]), id)));
+    cases.extend(HYPHEN_AT_AN_END.iter().map(|id| case(bundle(&[(id, b"image")]), PLAIN)));
+    cases.extend(HYPHEN_AT_AN_END.iter().map(|id| case(bundle(&[(PLAIN, b"image")]), id)));
+    cases
 }
 
 /// The kinds, flags and string pair of the binary with `arch`/`sm_70`; its strings and its image follow.

@@ -1,7 +1,9 @@
 //! Entry IDs and device names: meanings, their spellings, the limits, and broken ones.
 
+pub mod processors;
+
 use super::random::Random;
-use crate::model::id::{compared_kind, meaning, same_meaning, same_target, sign_byte, Sign, Text};
+use crate::model::id::{begins_a_processor, compared_kind, meaning, same_meaning, same_target, sign_byte, Sign, Text};
 use std::collections::BTreeMap;
 
 /// A meaning with texts of its own.
@@ -11,7 +13,7 @@ pub const KINDS: &[&str] = &["host", "hip", "hipv4", "openmp"];
 const ARCHS: &[&str] = &["amdgcn", "amdgcn", "x86_64", "nvptx64", "spirv64", "a", "A", "_", "."];
 const VENDORS: &[&str] = &["amd", "amd", "unknown", "nvidia", "pc", "b", "B.b"];
 const SYSTEMS: &[&str] = &["amdhsa", "amdhsa", "linux", "cuda", "c", "gfx", "sm_"];
-const ENVIRONMENTS: &[&str] = &["", "", "", "gnu", "musl", "gfxenv", "gfx", "sm_", "sm_env", "gf", "sm", "GFX", "e"];
+const ENVIRONMENTS: &[&str] = &["", "", "", "", "gnu", "musl", "gf", "sm", "GFX", "xgfx", "e"];
 const PROCESSORS: &[&str] =
     &["gfx906", "gfx906", "gfx90a", "gfx1030", "sm_70", "sm_80", "gfx", "sm_", "generic", "g", "gf", "x.y_Z"];
 const FEATURES: &[&str] =
@@ -56,6 +58,16 @@ pub fn other_sign(sign: Sign) -> Sign {
     }
 }
 
+/// An environment. One that begins like a processor would be read as one.
+fn environment(random: &mut Random) -> Text<'static> {
+    loop {
+        let environment = field(random, ENVIRONMENTS);
+        if !begins_a_processor(&environment) {
+            return environment;
+        }
+    }
+}
+
 /// A meaning with no feature.
 pub fn target(random: &mut Random) -> Meaning {
     let has_processor = !random.one_in(3);
@@ -64,8 +76,8 @@ pub fn target(random: &mut Random) -> Meaning {
         arch: field(random, ARCHS),
         vendor: field(random, VENDORS),
         system: field(random, SYSTEMS),
-        environment: field(random, ENVIRONMENTS),
-        processor: has_processor.then(|| field(random, PROCESSORS)),
+        environment: environment(random),
+        processor: has_processor.then(|| processors::any(random)),
         features: BTreeMap::new(),
     }
 }
@@ -119,7 +131,7 @@ pub fn with_features(random: &mut Random, mut meaning: Meaning, names: &[Text<'s
 /// A meaning with a processor and so many features.
 pub fn with_feature_count(random: &mut Random, count: usize) -> Meaning {
     let mut meaning = target(random);
-    meaning.processor = Some(field(random, PROCESSORS));
+    meaning.processor = Some(processors::any(random));
     let names = feature_names(random, count);
     with_features(random, meaning, &names)
 }
@@ -134,7 +146,7 @@ pub fn some_feature_count(random: &mut Random) -> usize {
     }
 }
 
-/// How long the canonical form is: six fields with five dashes, and each feature with its colon and its sign.
+/// How long the canonical form is: six fields, the processor being one, with five dashes, and each feature with its colon and its sign.
 fn canonical_length(meaning: &Meaning) -> usize {
     let Meaning { kind, arch, vendor, system, environment, processor, features } = meaning;
     let fields = kind.len() + arch.len() + vendor.len() + system.len() + environment.len();
@@ -142,22 +154,28 @@ fn canonical_length(meaning: &Meaning) -> usize {
     fields + processor + 5 + features.keys().map(|name| name.len() + 2).sum::<usize>()
 }
 
-/// Any meaning that keeps the rules.
-pub fn some_meaning(random: &mut Random) -> Meaning {
+/// A meaning whose canonical form has at most so many bytes.
+fn at_most(random: &mut Random, bytes: usize, make: impl Fn(&mut Random) -> Meaning) -> Meaning {
     loop {
-        let count = some_feature_count(random);
-        let meaning = if count == 0 { target(random) } else { with_feature_count(random, count) };
-        if canonical_length(&meaning) <= 256 {
+        let meaning = make(random);
+        if canonical_length(&meaning) <= bytes {
             return meaning;
         }
     }
 }
 
-/// The meaning of an ID, which need not live as long.
-pub fn meaning_of(id: &[u8]) -> Meaning {
+/// Any meaning that keeps the rules.
+pub fn some_meaning(random: &mut Random) -> Meaning {
+    at_most(random, 256, |random| match some_feature_count(random) {
+        0 => target(random),
+        count => with_feature_count(random, count),
+    })
+}
+
+/// The meaning of an ID, which need not live as long; nothing where it breaks the rules.
+pub fn read(id: &[u8]) -> Option<Meaning> {
     let owned = |text: Text| Text::Owned(text.into_owned());
-    let meaning = meaning(id).expect("an ID that keeps the rules");
-    Meaning {
+    meaning(id).map(|meaning| Meaning {
         kind: owned(meaning.kind),
         arch: owned(meaning.arch),
         vendor: owned(meaning.vendor),
@@ -165,7 +183,12 @@ pub fn meaning_of(id: &[u8]) -> Meaning {
         environment: owned(meaning.environment),
         processor: meaning.processor.map(owned),
         features: meaning.features.into_iter().map(|(name, sign)| (owned(name), sign)).collect(),
-    }
+    })
+}
+
+/// The meaning of an ID that keeps the rules.
+pub fn meaning_of(id: &[u8]) -> Meaning {
+    read(id).expect("an ID that keeps the rules")
 }
 
 /// The meaning with features more than it states, up to 8 in all.
@@ -216,16 +239,12 @@ fn group(random: &mut Random, target: Meaning, most: usize) -> Vec<Meaning> {
     group
 }
 
-fn reads_as_processor(field: &[u8]) -> bool {
-    field.starts_with(b"gfx") || field.starts_with(b"sm_")
-}
-
-/// The numbers of fields with which a meaning can be spelled.
+/// The numbers of fields with which a meaning can be spelled; a processor is one field, with its hyphens.
 fn field_counts(meaning: &Meaning) -> Vec<usize> {
     let mut counts = vec![6];
     match &meaning.processor {
-        Some(name) if meaning.environment.is_empty() && reads_as_processor(name) => counts.push(5),
-        None if !reads_as_processor(&meaning.environment) => counts.push(5),
+        Some(name) if meaning.environment.is_empty() && begins_a_processor(name) => counts.push(5),
+        None => counts.push(5),
         _ => {}
     }
     if meaning.processor.is_none() && meaning.environment.is_empty() {
@@ -234,7 +253,7 @@ fn field_counts(meaning: &Meaning) -> Vec<usize> {
     counts
 }
 
-/// The fields of a meaning, so many of them.
+/// The fields of a meaning, so many of them; the processor is one, with its hyphens.
 fn fields_of(meaning: &Meaning, count: usize) -> Vec<Text<'static>> {
     let mut fields = vec![
         meaning.kind.clone(),
@@ -294,22 +313,20 @@ pub struct IdMaker {
 }
 
 /// IDs that keep the rules, at their limits.
-pub const EDGES: &[IdMaker] = &[
+const EDGES: &[IdMaker] = &[
     IdMaker { name: "ID of 256 bytes", make: |random| of_length(random, 6, 256) },
-    IdMaker { name: "four fields, canonical form of 256 bytes", make: |random| of_length(random, 4, 254) },
-    IdMaker { name: "five fields, canonical form of 256 bytes", make: |random| of_length(random, 5, 255) },
+    IdMaker { name: "canonical form of 256 bytes, two dashes longer", make: |random| of_length(random, 4, 254) },
+    IdMaker { name: "canonical form of 256 bytes, a dash longer", make: |random| of_length(random, 5, 255) },
     IdMaker { name: "8 features", make: |random| of_features(random, 8) },
     IdMaker { name: "shortest ID", make: |_| b"hip-a-b-c".to_vec() },
-    IdMaker { name: "environment that begins like a processor", make: like_a_processor },
     IdMaker { name: "processor that does not begin like one", make: |_| b"hip-a-b-c--generic:x+".to_vec() },
     IdMaker { name: "names of which one begins with the other", make: |_| b"hip-a-b-c-gfx:ab-:a+:abc+".to_vec() },
 ];
 
 /// IDs of at most 256 bytes that break the rules.
-pub const BROKEN: &[IdMaker] = &[
+const BROKEN: &[IdMaker] = &[
     IdMaker { name: "ID of 1 byte", make: |random| random.bytes(1) },
     IdMaker { name: "three fields", make: |random| broken_fields(random, |fields, _| fields.truncate(3)) },
-    IdMaker { name: "seven fields", make: seven_fields },
     IdMaker { name: "wrong kind", make: |random| broken_fields(random, wrong_kind) },
     IdMaker { name: "empty arch", make: |random| broken_fields(random, |fields, _| fields[1] = Text::default()) },
     IdMaker { name: "empty vendor", make: |random| broken_fields(random, |fields, _| fields[2] = Text::default()) },
@@ -327,78 +344,83 @@ pub const BROKEN: &[IdMaker] = &[
     IdMaker { name: "five fields, no processor and a feature", make: |random| no_processor(random, 5) },
     IdMaker { name: "six fields, no processor and a feature", make: |random| no_processor(random, 6) },
     IdMaker { name: "9 features", make: |random| of_features(random, 9) },
-    IdMaker { name: "four fields, canonical form of 257 bytes", make: |random| of_length(random, 4, 255) },
-    IdMaker { name: "four fields, canonical form of 258 bytes", make: |random| of_length(random, 4, 256) },
-    IdMaker { name: "five fields, canonical form of 257 bytes", make: |random| of_length(random, 5, 256) },
+    IdMaker { name: "canonical form of 257 bytes, two dashes longer", make: |random| of_length(random, 4, 255) },
+    IdMaker { name: "canonical form of 258 bytes, two dashes longer", make: |random| of_length(random, 4, 256) },
+    IdMaker { name: "canonical form of 257 bytes, a dash longer", make: |random| of_length(random, 5, 256) },
 ];
 
-/// A spelling of so many fields and so many bytes: one field is as long as it has to be.
+/// IDs that are 257 bytes long, and keep all other rules.
+const TOO_LONG: &[IdMaker] = &[IdMaker { name: "257 bytes", make: |random| of_length(random, 6, 257) }];
+
+/// `EDGES`, and those of processors with hyphens.
+pub fn edges() -> impl Iterator<Item = &'static IdMaker> {
+    EDGES.iter().chain(processors::EDGES)
+}
+
+/// `BROKEN`, and those of processors with hyphens.
+pub fn broken() -> impl Iterator<Item = &'static IdMaker> {
+    BROKEN.iter().chain(processors::BROKEN)
+}
+
+/// `TOO_LONG`, and those of processors with hyphens.
+pub fn too_long() -> impl Iterator<Item = &'static IdMaker> {
+    TOO_LONG.iter().chain(processors::TOO_LONG)
+}
+
+/// Any ID that is broken.
+pub fn some_broken(random: &mut Random) -> Vec<u8> {
+    let makers: Vec<&IdMaker> = broken().collect();
+    (random.choose(&makers).make)(random)
+}
+
+/// A spelling of so many fields and so many bytes.
 pub fn of_length(random: &mut Random, fields: usize, length: usize) -> Vec<u8> {
+    filled(random, fields, length, some_meaning)
+}
+
+/// A spelling of so many fields, of a meaning that is made so, in so many bytes: one field is as long as it has to be.
+fn filled(random: &mut Random, fields: usize, length: usize, make: impl Fn(&mut Random) -> Meaning) -> Vec<u8> {
     loop {
-        let mut meaning = some_meaning(random);
+        let mut meaning = make(random);
         if !field_counts(&meaning).contains(&fields) {
             continue;
         }
         let now = spelled_with(random, &meaning, fields).len();
         if now <= length {
-            let more = (now..length).map(|_| *random.choose(FIELD_BYTES));
-            random_field(&mut meaning, length).extend(more.collect::<Vec<u8>>());
+            let more: Vec<u8> = (now..length).map(|_| *random.choose(FIELD_BYTES)).collect();
+            some_field(random, &mut meaning).extend(more);
             return spelled_with(random, &meaning, fields);
         }
     }
 }
 
-/// Arch, vendor or system, by a number.
-fn random_field(meaning: &mut Meaning, number: usize) -> &mut Vec<u8> {
-    match number % 3 {
-        0 => meaning.arch.to_mut(),
-        1 => meaning.vendor.to_mut(),
+/// Arch, vendor, system, or the processor if there is one.
+fn some_field<'a>(random: &mut Random, meaning: &'a mut Meaning) -> &'a mut Vec<u8> {
+    match (random.below(4), &mut meaning.processor) {
+        (0, _) => meaning.arch.to_mut(),
+        (1, _) => meaning.vendor.to_mut(),
+        (2, Some(name)) => name.to_mut(),
         _ => meaning.system.to_mut(),
     }
 }
 
 fn of_features(random: &mut Random, count: usize) -> Vec<u8> {
-    loop {
-        let meaning = with_feature_count(random, count);
-        let id = spelled(random, &meaning);
-        if canonical_length(&meaning) <= 256 {
-            return id;
-        }
-    }
-}
-
-fn like_a_processor(random: &mut Random) -> Vec<u8> {
-    let mut meaning = target(random);
-    meaning.environment = choose(random, &["gfx", "gfxenv", "sm_", "sm_70"]);
-    meaning.processor = None;
+    let meaning = at_most(random, 256, |random| with_feature_count(random, count));
     spelled(random, &meaning)
 }
 
-/// A meaning short enough that no damage makes its ID longer than 256 bytes.
-fn short_meaning(random: &mut Random) -> Meaning {
-    loop {
-        let meaning = some_meaning(random);
-        if canonical_length(&meaning) <= 180 {
-            return meaning;
-        }
-    }
+/// A meaning that is made so, short enough that no damage makes its ID longer than 256 bytes.
+fn short_meaning(random: &mut Random, make: impl Fn(&mut Random) -> Meaning) -> Meaning {
+    at_most(random, 180, make)
 }
 
 /// The ID of a meaning after damage to its fields.
 fn broken_fields(random: &mut Random, damage: fn(&mut Vec<Text<'static>>, &mut Random)) -> Vec<u8> {
-    let meaning = short_meaning(random);
+    let meaning = short_meaning(random, some_meaning);
     let counts = field_counts(&meaning);
     let mut fields = fields_of(&meaning, *random.choose(&counts));
     let pieces = feature_texts(random, &meaning);
     damage(&mut fields, random);
-    text(&fields, &pieces)
-}
-
-fn seven_fields(random: &mut Random) -> Vec<u8> {
-    let meaning = short_meaning(random);
-    let mut fields = fields_of(&meaning, 6);
-    fields.push(field(random, ENVIRONMENTS));
-    let pieces = feature_texts(random, &meaning);
     text(&fields, &pieces)
 }
 
@@ -429,10 +451,11 @@ fn wrong_field_byte(fields: &mut Vec<Text<'static>>, random: &mut Random) {
 
 /// The ID of a meaning with a processor, with one piece put among its features.
 fn broken_piece(random: &mut Random, piece: fn(&mut Random) -> Vec<u8>) -> Vec<u8> {
-    let mut meaning = short_meaning(random);
-    meaning.processor = Some(field(random, PROCESSORS));
+    let meaning = short_meaning(random, |random| {
+        let count = some_feature_count(random).min(7);
+        with_feature_count(random, count)
+    });
     let mut pieces = feature_texts(random, &meaning);
-    pieces.truncate(7);
     let at = random.between(0, pieces.len());
     let piece = piece(random);
     pieces.insert(at, piece);
@@ -471,7 +494,7 @@ fn name_twice(random: &mut Random, second: fn(Sign) -> Sign) -> Vec<u8> {
 }
 
 fn no_processor(random: &mut Random, fields: usize) -> Vec<u8> {
-    let mut meaning = short_meaning(random);
+    let mut meaning = short_meaning(random, some_meaning);
     meaning.processor = None;
     if fields == 4 {
         meaning.environment = Text::default();
@@ -503,13 +526,13 @@ mod tests {
     #[test]
     fn edges_keep_the_rules_and_broken_ids_do_not() {
         let mut random = Random::of_case(1, 2);
-        for maker in EDGES {
+        for maker in edges() {
             for _ in 0..500 {
                 let id = (maker.make)(&mut random);
                 assert!(meaning(&id).is_some(), "{}: {}", maker.name, String::from_utf8_lossy(&id));
             }
         }
-        for maker in BROKEN {
+        for maker in broken() {
             for _ in 0..500 {
                 let id = (maker.make)(&mut random);
                 assert!(!id.is_empty() && id.len() <= 256, "{}: {}", maker.name, id.len());

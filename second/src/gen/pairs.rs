@@ -1,8 +1,9 @@
 //! Two IDs that are compared: two entries of one bundle, or an entry and a device name.
 
+use super::ids::processors::{self, double_hyphen, hyphens_of};
 use super::ids::{self, Meaning, KINDS};
 use super::random::Random;
-use crate::model::id::Sign;
+use crate::model::id::{Sign, Text};
 use crate::model::{MIXED, NONE, OK, QUERY, TWICE};
 
 const HIP: &[&str] = &["hip", "hipv4"];
@@ -31,6 +32,10 @@ pub fn entries() -> Vec<Pair> {
             feature_more(other, random);
         })
     }));
+    pairs.push(hyphenated(TWICE, "the same meaning", |_, _| {}));
+    pairs.push(hyphenated(MIXED, "a feature more", feature_more));
+    pairs.push(environment_joined(OK));
+    pairs.extend(processors_apart(OK));
     pairs
 }
 
@@ -45,6 +50,9 @@ pub fn devices() -> Vec<Pair> {
         let hipv4 = ids::kind_respelled(&hip);
         [hip, hipv4]
     }));
+    pairs.push(hyphenated(OK, "the same meaning", |_, _| {}));
+    pairs.push(environment_joined(NONE));
+    pairs.extend(processors_apart(NONE));
     pairs
 }
 
@@ -53,6 +61,11 @@ pub fn ordered_by_kind(random: &mut Random) -> [Meaning; 2] {
     let [hipv4, mut hip] = across(random, "hipv4", |_, _| {});
     hip.arch.to_mut().push(b'x');
     [hipv4, hip]
+}
+
+/// An entry that comes first by its processor, and last by all its bytes: `:` stands where the other has a hyphen.
+pub fn ordered_by_hyphen(random: &mut Random) -> [Meaning; 2] {
+    changed(random, KINDS, |other, _| processor(other).extend(b"-x"))
 }
 
 /// What makes the second meaning of the first, which states features.
@@ -68,7 +81,7 @@ const ENTRY_CHANGES: &[(u64, &str, Change)] = &[
     }),
     (OK, "another sign", |other, _| change_sign(other)),
     (OK, "another processor", |other, random| {
-        other.processor.as_mut().expect("a processor").to_mut().push(*random.choose(b"abc_."));
+        processor(other).push(*random.choose(b"abc_."));
         drop_first_feature(other);
     }),
 ];
@@ -82,11 +95,30 @@ const DEVICE_CHANGES: &[(u64, &str, Change)] = &[
     (NONE, "another arch", |device, _| device.arch.to_mut().push(b'x')),
     (NONE, "another vendor", |device, _| device.vendor.to_mut().push(b'x')),
     (NONE, "another system", |device, _| device.system.to_mut().push(b'x')),
-    (NONE, "another environment", |device, _| device.environment.to_mut().push(b'x')),
-    (NONE, "another processor", |device, _| device.processor.as_mut().expect("a processor").to_mut().push(b'x')),
+    // With an x, `gf` would begin like a processor.
+    (NONE, "another environment", |device, _| device.environment.to_mut().push(b'e')),
+    (NONE, "another processor", |device, _| processor(device).push(b'x')),
     (NONE, "no processor", |device, _| {
         device.processor = None;
         device.features.clear();
+    }),
+];
+
+/// What makes another processor of one with hyphens.
+type ProcessorChange = fn(&mut Vec<u8>, &mut Random);
+
+const PROCESSOR_CHANGES: &[(&str, ProcessorChange)] = &[
+    ("the first field alone", |name, _| name.truncate(hyphens_of(name)[0])),
+    ("the last field alone", |name, _| drop(name.drain(..=hyphens_of(name).pop().expect("a hyphen")))),
+    ("a field more", |name, _| name.extend(b"-x")),
+    ("one more", double_hyphen),
+    ("one less", |name, random| {
+        let at = *random.choose(&hyphens_of(name));
+        name.remove(at);
+    }),
+    ("another byte for one", |name, random| {
+        let at = *random.choose(&hyphens_of(name));
+        name[at] = *random.choose(b"_.0x");
     }),
 ];
 
@@ -120,9 +152,7 @@ fn respelled(number: u64) -> [Pair; 3] {
     let both = |name: &str, make: fn(&mut Random) -> Meaning| {
         pair(number, name, move |random| {
             let one = make(random);
-            let mut both = [ids::kind_respelled(&one), one];
-            random.shuffle(&mut both);
-            both
+            in_any_order(random, [ids::kind_respelled(&one), one])
         })
     };
     [
@@ -135,6 +165,41 @@ fn respelled(number: u64) -> [Pair; 3] {
     ]
 }
 
+/// A meaning whose processor has hyphens, with one to four features, and what a change makes of it, in any order.
+fn hyphenated(number: u64, name: &str, change: impl Fn(&mut Meaning, &mut Random) + 'static) -> Pair {
+    pair(number, &format!("hyphens, {name}"), move |random| {
+        let count = random.between(1, 4);
+        let one = processors::hyphenated(random, count);
+        let mut other = one.clone();
+        change(&mut other, random);
+        in_any_order(random, [one, other])
+    })
+}
+
+/// Two that differ in a processor with hyphens.
+fn processors_apart(number: u64) -> Vec<Pair> {
+    let by_change = |&(name, change): &(&str, ProcessorChange)| {
+        hyphenated(number, name, move |other, random| change(processor(other), random))
+    };
+    PROCESSOR_CHANGES.iter().map(by_change).collect()
+}
+
+/// A processor with hyphens after an environment, and all of it as a processor, in any order.
+fn environment_joined(number: u64) -> Pair {
+    pair(number, "hyphens, the environment before them", |random| {
+        let environment = ids::choose(random, &["gnu", "gf", "sm", "e"]);
+        let one = Meaning { environment, ..processors::hyphenated(random, 1) };
+        let name = [&one.environment[..], one.processor.as_ref().expect("a processor")].join(&b'-');
+        let other = Meaning { environment: Text::default(), processor: Some(name.into()), ..one.clone() };
+        in_any_order(random, [one, other])
+    })
+}
+
+fn in_any_order(random: &mut Random, mut both: [Meaning; 2]) -> [Meaning; 2] {
+    random.shuffle(&mut both);
+    both
+}
+
 /// A meaning of this kind with a canonical form of 256 bytes.
 fn longest(random: &mut Random, kind: &str) -> Meaning {
     loop {
@@ -143,6 +208,10 @@ fn longest(random: &mut Random, kind: &str) -> Meaning {
             return meaning;
         }
     }
+}
+
+fn processor(meaning: &mut Meaning) -> &mut Vec<u8> {
+    meaning.processor.as_mut().expect("a processor").to_mut()
 }
 
 fn feature_more(meaning: &mut Meaning, random: &mut Random) {

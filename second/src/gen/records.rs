@@ -1,7 +1,7 @@
 //! Records for the bundle writer, with the two buffers they name parts of.
 
 use super::bundles::{some_count, FAR_ABOVE};
-use super::ids::{self, IdMaker, Meaning, BROKEN, EDGES};
+use super::ids::{self, IdMaker, Meaning};
 use super::images::{self, Span};
 use super::pairs::{self, Pair};
 use super::random::Random;
@@ -149,13 +149,10 @@ fn id_part_aims() -> Vec<WriterAim> {
         id_part(TABLE, "ID start with one high bit more", |_, record, random| {
             (record.id_start ^ (1 << random.between(32, 63)), record.id_length)
         }),
-        write(TABLE, "ID of 257 bytes", |case, random| {
-            let id = ids::of_length(random, 6, 257);
-            case.put_id(random, &id);
-        }),
     ]
 }
 
+/// 5, IDs at the limits, and IDs that are too long.
 fn id_aims() -> Vec<WriterAim> {
     let put = |number: u64, maker: &IdMaker| {
         let make = maker.make;
@@ -165,7 +162,11 @@ fn id_aims() -> Vec<WriterAim> {
             case.room = Room::Exact;
         })
     };
-    EDGES.iter().map(|maker| put(OK, maker)).chain(BROKEN.iter().map(|maker| put(ID, maker))).collect()
+    let mut aims = Vec::new();
+    aims.extend(ids::edges().map(|maker| put(OK, maker)));
+    aims.extend(ids::broken().map(|maker| put(ID, maker)));
+    aims.extend(ids::too_long().map(|maker| put(TABLE, maker)));
+    aims
 }
 
 /// Another image part in some record, from the length of the image buffer.

@@ -1,4 +1,5 @@
-//! The examples of RULES B, the mistakes of RULES C, `hip` beside `hipv4`, entries by index, and images that overlap.
+//! The examples of RULES B, the mistakes of RULES C, `hip` beside `hipv4`, entries by index, images that overlap, and processors with
+//! hyphens.
 
 use super::binaries::{read_all, Binary, Pair};
 use super::binary_writer::{write_binary, Content};
@@ -349,14 +350,179 @@ fn sum_that_wraps() {
     assert_eq!(check(&with_field(bytes, 32, u64::MAX)), refusal(RANGE, 0));
 }
 
+/// Environment and processor of `hip-a-b-c` with more behind it; nothing where it is refused.
+fn environment_and_processor(more: &str) -> Option<(String, Option<String>)> {
+    let text = |bytes: &[u8]| String::from_utf8(bytes.to_vec()).unwrap();
+    let id = format!("hip-a-b-c{more}");
+    meaning(id.as_bytes()).map(|meaning| (text(&meaning.environment), meaning.processor.map(|name| text(&name))))
+}
+
 #[test]
-fn environment_that_begins_like_a_processor() {
-    let text = canonical_text("hip-a-b-c-gfxenv-");
-    assert_eq!(text, "hip-a-b-c-gfxenv-");
-    assert_eq!(known("hip-a-b-c-gfxenv-").processor, None);
-    assert_eq!(known("hip-a-b-c-gfxenv").processor, Some(b"gfxenv"[..].into()));
-    assert_eq!(canonical_text("hip-a-b-c"), "hip-a-b-c--");
-    assert_eq!(canonical_text("hip-a-b-c-"), "hip-a-b-c--");
+fn ids_without_a_processor() {
+    for (more, environment) in [
+        ("", ""),
+        ("-", ""),
+        ("--", ""),
+        ("-gnu", "gnu"),
+        ("-gnu-", "gnu"),
+        // Almost the beginning of a processor.
+        ("-gf", "gf"),
+        ("-gf-", "gf"),
+        ("-sm", "sm"),
+        ("-sm-", "sm"),
+        ("-sm70", "sm70"),
+        ("-GFX9", "GFX9"),
+        ("-xgfx9-", "xgfx9"),
+    ] {
+        assert_eq!(environment_and_processor(more), Some((environment.to_string(), None)), "{more}");
+        assert_eq!(canonical_text(&format!("hip-a-b-c{more}")), format!("hip-a-b-c-{environment}-"));
+    }
+}
+
+#[test]
+fn processors_from_the_fifth_field() {
+    for processor in [
+        "gfx906",
+        "gfx",
+        "sm_",
+        "gfx9-generic",
+        "gfx9-4-generic",
+        "sm_70-x",
+        "gfx-gfx",
+        "sm_-sm_",
+        "gfxenv-gfx906",
+        "gfx906-gnu",
+        "gfx9--x",
+        "gfx9---x",
+        "gfx-a-b-c-d-e-f-g",
+    ] {
+        for more in [format!("-{processor}"), format!("--{processor}")] {
+            let expected = Some((String::new(), Some(processor.to_string())));
+            assert_eq!(environment_and_processor(&more), expected, "{more}");
+            assert_eq!(canonical_text(&format!("hip-a-b-c{more}")), format!("hip-a-b-c--{processor}"));
+        }
+    }
+}
+
+#[test]
+fn processors_from_the_sixth_field() {
+    for (environment, processor) in [
+        ("gnu", "x"),
+        ("gnu", "gfx906"),
+        ("gnu", "gfx9-generic"),
+        ("gnu", "sm_70-x"),
+        ("gnu", "x-y"),
+        ("gnu", "x--y"),
+        ("gnu", "x-gfx9"),
+        ("gnu", "a-b-c-d"),
+        ("gf", "x"),
+        ("gf", "gfx9-generic"),
+        ("sm", "_-x"),
+        ("GFX9", "generic"),
+        ("", "generic"),
+        ("", "x-y"),
+        ("", "gnu-gfx9"),
+    ] {
+        let more = format!("-{environment}-{processor}");
+        let expected = Some((environment.to_string(), Some(processor.to_string())));
+        assert_eq!(environment_and_processor(&more), expected, "{more}");
+        assert_eq!(canonical_text(&format!("hip-a-b-c{more}")), format!("hip-a-b-c{more}"));
+    }
+}
+
+#[test]
+fn processors_that_begin_or_end_with_a_hyphen() {
+    for more in [
+        "-gfxenv-",
+        "-gfxenv--",
+        "-gfx-",
+        "-sm_-",
+        "-gfx9-generic-",
+        "--gfx9-",
+        "---gfx9",
+        "---",
+        "----",
+        "-gnu--",
+        "-gnu---",
+        "-gnu--x",
+        "-gnu-x-",
+        "-gnu--x-",
+        "-gnu-x--",
+        "-gnu--gfx9",
+        "-gf--",
+        "-sm--",
+    ] {
+        assert_eq!(environment_and_processor(more), None, "{more}");
+        assert_eq!(environment_and_processor(&format!("{more}:x+")), None, "{more}");
+    }
+}
+
+#[test]
+fn generic_processors() {
+    assert_eq!(canonical_text(GENERIC), GENERIC_FORM);
+    assert_eq!(check(&bundle(&[(GENERIC, b""), (GENERIC_FORM, b"")])), refusal(TWICE, 1));
+    assert_eq!(check(&bundle(&[(GENERIC, b""), (GENERIC_OFF, b"")])), refusal(MIXED, 1));
+    let bytes = bundle(&[(GENERIC_ON, b"on"), (GENERIC_OFF, b"off"), (GFX9_ON, b"other")]);
+    assert_eq!(check(&bytes), accepted(3));
+    for (index, device) in [GENERIC_ON, GENERIC_OFF, GFX9_ON].iter().enumerate() {
+        let picked = pick(&bytes, device.as_bytes());
+        assert_eq!((picked.number, picked.index), (OK, index as u64), "{device}");
+    }
+    let apart = [(GENERIC, GFX9_ON), (GFX9_ON, GENERIC_ON), (GENERIC_ON, GENERIC_OFF), (GENERIC_ON, GENERIC)];
+    for (entry, device) in apart {
+        assert_eq!(pick(&bundle(&[(entry, b"")]), device.as_bytes()).number, NONE, "{entry}, {device}");
+    }
+}
+
+#[test]
+fn hyphens_in_entries_and_device_names() {
+    for id in HYPHENS {
+        let bytes = bundle(&[(PLAIN, b""), (id, b"image")]);
+        assert_eq!(check(&bytes), accepted(2), "{id}");
+        assert_eq!(pick(&bytes, id.as_bytes()).index, 1, "{id}");
+    }
+    for id in HYPHEN_AT_AN_END {
+        assert_eq!(check(&bundle(&[(PLAIN, b""), (id, b"image")])), refusal(ID, 1), "{id}");
+        assert_eq!(pick(&bundle(&[(PLAIN, b"")]), id.as_bytes()).number, QUERY, "{id}");
+    }
+}
+
+#[test]
+fn hyphens_come_before_colons_in_normal_forms() {
+    let bytes = bundle(&[("hip-a-b-c-gfx9:x+", b"3"), ("hip-a-b-c-gfx9-x:x+", b"2"), ("hip-a-b-c-gfx9--x", b"1")]);
+    let expected =
+        bundle(&[("hip-a-b-c--gfx9--x", b"1"), ("hip-a-b-c--gfx9-x:x+", b"2"), ("hip-a-b-c--gfx9:x+", b"3")]);
+    assert_eq!(normal(&bytes), expected);
+}
+
+#[test]
+fn features_after_hyphens() {
+    assert_eq!(canonical_text("hip-a-b-c-gfx9-x:b-:a+"), "hip-a-b-c--gfx9-x:a+:b-");
+    assert_eq!(canonical_text("hip-a-b-c-gnu-x-y:a-"), "hip-a-b-c-gnu-x-y:a-");
+    for id in ["hip-a-b-c-gfx9-x:", "hip-a-b-c-gfx9-x:a-b+", "hip-a-b-c-gfx9-x:a", "hip-a-b-c-gfx9-x:a+:a-"] {
+        assert!(refused(id), "{id}");
+    }
+    let features = |count: usize| ["a+", "b+", "c+", "d+", "e+", "f+", "g+", "h+", "i+"][..count].join(":");
+    assert!(!refused(&format!("hip-a-b-c-gfx9-x:{}", features(8))));
+    assert!(refused(&format!("hip-a-b-c-gfx9-x:{}", features(9))));
+}
+
+#[test]
+fn bytes_between_hyphens() {
+    for piece in ["+", "/", " ", "x+", "\0", "é"] {
+        for id in [
+            format!("hip-a-b-c-gfx9-{piece}"),
+            format!("hip-a-b-c-gfx9-{piece}-x"),
+            format!("hip-a-b-c-gfx9{piece}-x"),
+            format!("hip-a-b-c-gnu-x-{piece}"),
+            format!("hip-a-b-c-gnu{piece}-x-y"),
+        ] {
+            assert!(refused(&id), "{id}");
+        }
+    }
+    for piece in ["_", ".", "0", "A", "z", "_.0Az"] {
+        assert!(!refused(&format!("hip-a-b-c-gfx9-{piece}-x")), "{piece}");
+    }
 }
 
 #[test]
@@ -365,7 +531,7 @@ fn spelling_rules() {
         "",
         "hip",
         "hip-a-b",
-        "hip-a-b-c-d-e-f",
+        "hip-a-b:x-",
         "HIP-a-b-c",
         "hipv5-a-b-c",
         "-a-b-c",
@@ -390,6 +556,7 @@ fn spelling_rules() {
     }
     for id in [
         "hip-a-b-c",
+        "hip-a-b-c-d-e-f",
         "host-A_.9-b-c-",
         "openmp-a-b-c-sm_",
         "hipv4-a-b-c--x:_+:0-",
@@ -407,6 +574,14 @@ fn id_limits() {
     let six_fields = |length: usize| format!("hip-a-b-{}--", "c".repeat(length - 10));
     assert!(!refused(&six_fields(256)));
     assert!(refused(&six_fields(257)));
+    for filler in ["-", "x", "-x"] {
+        // A processor from the fifth field on has one dash more in the canonical form.
+        let text = |head: &str, length: usize| format!("{head}{}x", &filler.repeat(256)[..length - head.len() - 1]);
+        assert_eq!(canonical_text(&text("hip-a-b-c-gfx", 255)).len(), 256);
+        assert!(refused(&text("hip-a-b-c-gfx", 256)));
+        assert_eq!(canonical_text(&text("hip-a-b-c-gnu-x", 256)).len(), 256);
+        assert!(refused(&text("hip-a-b-c-gnu-x", 257)));
+    }
 }
 
 #[test]

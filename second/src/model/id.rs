@@ -41,7 +41,7 @@ pub fn meaning(id: &[u8]) -> Option<Meaning<'_>> {
         vendor: fields[2].into(),
         system: fields[3].into(),
         environment: environment.into(),
-        processor: processor.map(|name| name.into()),
+        processor,
         features: features(after)?,
     };
     let keeps_rules = is_kind(&meaning.kind)
@@ -63,16 +63,28 @@ fn cut_at_first_colon(id: &[u8]) -> (&[u8], Option<&[u8]>) {
     }
 }
 
-/// The rules for four, five and six fields. "Any other number is refused."
-fn environment_and_processor<'a>(fields: &[&'a [u8]]) -> Option<(&'a [u8], Option<&'a [u8]>)> {
-    match fields.len() {
-        4 => Some((b"", None)),
-        5 if fields[4].starts_with(b"gfx") || fields[4].starts_with(b"sm_") => Some((b"", Some(fields[4]))),
-        5 => Some((fields[4], None)),
-        6 if fields[5].is_empty() => Some((fields[4], None)),
-        6 => Some((fields[4], Some(fields[5]))),
-        _ => None,
+/// Fewer than four fields are refused. From the fifth on: "if the fifth field begins with `gfx` or `sm_`, the processor starts there and
+/// runs, hyphens included, to the first `:` or the end, and the environment is empty. Otherwise the sixth field starts it and it runs on
+/// likewise." "an empty sixth means no processor", where no seventh follows.
+fn environment_and_processor<'a>(fields: &[&'a [u8]]) -> Option<(&'a [u8], Option<Text<'a>>)> {
+    match fields.get(4..)? {
+        [] => Some((b"", None)),
+        name @ [fifth, ..] if begins_a_processor(fifth) => Some((b"", Some(processor(name)?))),
+        [environment] | [environment, b""] => Some((environment, None)),
+        [environment, name @ ..] => Some((environment, Some(processor(name)?))),
     }
+}
+
+/// Whether a fifth field "begins with `gfx` or `sm_`".
+pub fn begins_a_processor(field: &[u8]) -> bool {
+    field.starts_with(b"gfx") || field.starts_with(b"sm_")
+}
+
+/// These fields joined again, "hyphens included". "A processor neither begins nor ends with a hyphen."
+fn processor<'a>(fields: &[&[u8]]) -> Option<Text<'a>> {
+    let name = fields.join(&b'-');
+    let keeps_rules = !name.starts_with(b"-") && !name.ends_with(b"-");
+    keeps_rules.then_some(name.into())
 }
 
 /// "Kind is exactly `host`, `hip`, `hipv4` or `openmp`."
@@ -114,7 +126,7 @@ fn is_name_byte(byte: &u8) -> bool {
 }
 
 /// "The canonical form always writes six fields, then the features in byte order of their names, a shorter name before a longer one
-/// that begins with it." That is the order of a `BTreeMap` over byte strings.
+/// that begins with it." The processor is one of the six, with its hyphens. The order is that of a `BTreeMap` over byte strings.
 pub fn canonical(meaning: &Meaning) -> Vec<u8> {
     let processor: &[u8] = match &meaning.processor {
         None => b"",

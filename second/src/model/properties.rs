@@ -1,15 +1,16 @@
-//! What RULES 8.3, 10.6, 10.7 and 16 say of the rules as a whole, tried on generated cases.
+//! What RULES 8.3, 10.6, 10.7 and 16 say of the rules as a whole, tried on generated cases; and which IDs there are, tried on all short
+//! ones.
 
 use super::binaries::read_all;
 use super::binary_writer::{write_binary, PairParts};
 use super::bundle::{check, entries, entry_at_of, normalise, pick, pick_of, Checked, Entries, Entry, Located};
 use super::bundle_writer::write_bundle;
-use super::id::{canonical, compatible, meaning, mixed, same_meaning};
+use super::id::{begins_a_processor, canonical, compatible, meaning, mixed, same_meaning, Meaning};
 use super::*;
 use crate::gen::bundles::{some_count, Draft, Offset, Row};
 use crate::gen::random::Random;
 use crate::gen::{binary_contents, ids, records};
-use std::collections::BTreeSet;
+use std::collections::{BTreeMap, BTreeSet};
 
 const CASES: u64 = 3000;
 
@@ -58,6 +59,70 @@ fn a_canonical_form_has_its_own_meaning_and_form() {
         let text = canonical(&expected);
         assert_eq!(meaning(&text), Some(expected));
     });
+}
+
+/// Every text of so many pieces.
+fn texts(pieces: usize) -> Vec<String> {
+    if pieces == 0 {
+        return vec![String::new()];
+    }
+    let longer = |text: &String| ["-", "gfx", "sm_", "x"].map(|piece| format!("{text}{piece}"));
+    texts(pieces - 1).iter().flat_map(longer).collect()
+}
+
+/// Each environment and processor, if it has one, of which this is a spelling.
+fn spelled_by(text: &str) -> Vec<(&str, Option<&str>)> {
+    let is_environment = |text: &str| !text.contains('-') && !begins_a_processor(text.as_bytes());
+    let is_processor = |text: &str| !text.is_empty() && !text.starts_with('-') && !text.ends_with('-');
+    let mut spelled = Vec::new();
+    if is_environment(text) {
+        spelled.push((text, None));
+    }
+    if is_processor(text) && begins_a_processor(text.as_bytes()) {
+        spelled.push(("", Some(text)));
+    }
+    for (at, _) in text.match_indices('-') {
+        match (&text[..at], &text[at + 1..]) {
+            (environment, "") if is_environment(environment) => spelled.push((environment, None)),
+            (environment, name) if is_environment(environment) && is_processor(name) => {
+                spelled.push((environment, Some(name)))
+            }
+            _ => {}
+        }
+    }
+    spelled
+}
+
+#[test]
+fn an_id_is_accepted_exactly_when_it_spells_one_meaning() {
+    for text in (0..=7).flat_map(texts) {
+        let id = format!("hip-a-b-c-{text}");
+        let read = meaning(id.as_bytes());
+        let found = read.iter().map(|read| (&read.environment[..], read.processor.as_deref()));
+        let expected = spelled_by(&text);
+        let expected = expected.iter().map(|(environment, name)| (environment.as_bytes(), name.map(str::as_bytes)));
+        assert!(found.eq(expected), "{id}: {read:?}");
+    }
+}
+
+#[test]
+fn a_canonical_form_of_an_id_is_its_own_and_at_most_two_dashes_longer() {
+    for id in (0..=6).flat_map(texts).map(|text| format!("hip-a-b-c{text}")) {
+        if let Some(read) = meaning(id.as_bytes()) {
+            let form = canonical(&read);
+            assert!(form.len() - id.len() <= 2, "{id}");
+            assert_eq!(meaning(&form), Some(read), "{id}");
+        }
+    }
+}
+
+#[test]
+fn a_feature_changes_nothing_before_it_and_needs_a_processor() {
+    for id in (0..=6).flat_map(texts).map(|text| format!("hip-a-b-c{text}")) {
+        let with_feature = format!("{id}:x-");
+        let read = meaning(with_feature.as_bytes()).map(|read| Meaning { features: BTreeMap::new(), ..read });
+        assert_eq!(read, meaning(id.as_bytes()).filter(|read| read.processor.is_some()), "{id}");
+    }
 }
 
 #[test]

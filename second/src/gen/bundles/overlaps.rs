@@ -212,8 +212,7 @@ fn other_number_aims() -> Vec<BundleAim> {
         check(ID, "overlap, and a broken ID", |draft, random| {
             draft.put_some_overlap(random);
             let at = draft.some_row(random);
-            let id = (random.choose(BROKEN).make)(random);
-            draft.rows[at].set_id(id);
+            draft.rows[at].set_id(ids::some_broken(random));
         }),
         check(RANGE, "overlap, and another image out of range", |draft, random| {
             let [a, b, c] = draft.some_rows(random);
@@ -230,7 +229,7 @@ fn other_number_aims() -> Vec<BundleAim> {
         }),
         pick(OVERLAP, "overlap, and a broken device name", |draft, random| {
             draft.put_some_overlap(random);
-            draft.device = (random.choose(BROKEN).make)(random);
+            draft.device = ids::some_broken(random);
         }),
         entry(OVERLAP, "overlap, and an index above the count", |draft, random| {
             draft.put_some_overlap(random);
