@@ -32,7 +32,7 @@ SECOND := --offline --manifest-path second/Cargo.toml
 BENCH := $(CARGO) run --release --offline --manifest-path bench/Cargo.toml --
 
 .PHONY: demo test install uninstall clean help tool library harness prove tools
-.PHONY: selftest calls stack compare second-test tool-test example install-test build-test gate-test damage bench order
+.PHONY: selftest calls stack compare second-test tool-test example install-test build-test gate-test damage bench order profile
 
 ## For use
 ##   make               the tool, and the library that it needs
@@ -141,8 +141,9 @@ bench: tools $(TOOL) $(BENCH_CALLS)
 	$(BENCH) $(TOOL) target/bench | tee target/bench.md
 
 ##   make order         the order of two IDs alone, which is timed in the gate too
-order: tools $(LIBRARY) $(BENCH_CALLS)
-	LLVM_CONFIG= $(BENCH) order
+##   make profile       the calls of the profile beside the general ones, which are timed in the gate too
+order profile: tools $(LIBRARY) $(BENCH_CALLS)
+	LLVM_CONFIG= $(BENCH) $@
 
 ##
 ## Settings, as in `make tool CC=clang`: CC CXX CPPFLAGS CFLAGS CXXFLAGS LDFLAGS LDLIBS WARNINGS PREFIX DESTDIR

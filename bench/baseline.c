@@ -2,6 +2,7 @@
  * targets are found through hash tables, so that the work grows with the number of entries and not with its square. An image below or above all
  * earlier ones overlaps none; one between them is compared with each. */
 #include "baseline.h"
+#include "baseline_processors.h"
 
 #include <limits.h>
 #include <string.h>
@@ -10,6 +11,9 @@ enum { OK, LENGTH, MAGIC, COUNT, TABLE, ID, RANGE, TWICE, MIXED, QUERY, NONE, BI
 enum { ENTRIES = 64, ID_LIMIT = 256, FEATURES = 8, SLOTS = 128 };
 static const uint64_t limit = 1073741824;
 static const uint8_t magic[24] = "__CLANG_OFFLOAD_BUNDLE__";
+
+/* How IDs are read: by the general rules, or by the profile for AMD's GPUs. */
+enum reading { GENERAL, AMDGPU };
 
 /* Kinds as they are compared: hip and hipv4 are one. */
 enum kind { NO_KIND, HOST, HIP, OPENMP };
@@ -56,14 +60,16 @@ static const uint8_t classes[256] = {
 };
 
 /* Where an ID's parts lie: dashes[k] ends field k, `target` ends the last one. The processor lies between `processor` and `target`, which are equal
- * where there is none. The canonical form has `missing` dashes more than the text, at `gap`. */
+ * where there is none. The canonical form has `missing` dashes more than the text, before the processor, and the processor by its primary name. */
 struct parts {
     enum kind kind;
     uint32_t fields;
     uint32_t dashes[6];
     uint32_t target;
     uint32_t processor;
-    uint32_t gap, missing;
+    uint32_t missing;
+    const uint8_t *primary;
+    uint32_t primary_length;
     uint32_t features;
     struct feature {
         uint32_t start, length; /* name and sign */
@@ -117,13 +123,14 @@ static int starts_processor(const uint8_t *field, uint32_t length) {
 static int read_processor(const uint8_t *id, struct parts *parts) {
     uint32_t fifth = parts->dashes[3] + 1;
     if (parts->fields > 4 && starts_processor(id + fifth, parts->target - fifth)) {
-        parts->processor = parts->gap = fifth;
+        parts->processor = fifth;
         parts->missing = 1;
     } else {
         parts->processor = parts->fields == 6 ? parts->dashes[4] + 1 : parts->target;
-        parts->gap = parts->target;
         parts->missing = 6 - parts->fields;
     }
+    parts->primary = id + parts->processor;
+    parts->primary_length = parts->target - parts->processor;
     return parts->processor == parts->target || (id[parts->processor] != '-' && id[parts->target - 1] != '-');
 }
 
@@ -170,6 +177,35 @@ static int read_features(const uint8_t *id, uint32_t length, struct parts *parts
     return 1;
 }
 
+/* Whether the profile is for this ID: a device's kind, arch amdgcn, and a processor. */
+static int in_profile(const uint8_t *id, const struct parts *parts) {
+    const uint8_t *arch = id + parts->dashes[0] + 1;
+    return parts->kind != HOST && parts->processor < parts->target && parts->dashes[1] - parts->dashes[0] == 7 && memcmp(arch, "amdgcn", 6) == 0;
+}
+
+static int is_feature(const uint8_t *name, uint32_t length, const char *wanted, uint32_t wanted_length) {
+    return length == wanted_length && memcmp(name, wanted, wanted_length) == 0;
+}
+
+/* The profile: the processor is known and gets its primary name, and it supports every feature. */
+static int read_profile(const uint8_t *id, struct parts *parts) {
+    const struct processor *processor = find_processor(parts->primary, parts->primary_length);
+    uint32_t k;
+    if (processor == NULL)
+        return 0;
+    for (k = 0; k < parts->features; k++) {
+        const uint8_t *name = id + parts->feature[k].start;
+        uint32_t length = parts->feature[k].length - 1;
+        if (!(processor->sramecc && is_feature(name, length, "sramecc", 7)) && !(processor->xnack && is_feature(name, length, "xnack", 5)))
+            return 0;
+    }
+    if (processor->alternative) {
+        parts->primary = (const uint8_t *)processor->primary;
+        parts->primary_length = processor->primary_length;
+    }
+    return 1;
+}
+
 static uint64_t mix(uint64_t hash, uint64_t word) {
     hash = (hash ^ word) * 0x9E3779B97F4A7C15;
     return hash ^ hash >> 32;
@@ -185,10 +221,11 @@ static uint64_t hash_from(uint64_t hash, const uint8_t *text, uint32_t at, uint3
 /* Writes the target with its dashes, and the features in order. */
 static void write_canonical(const uint8_t *id, const struct parts *parts, uint8_t *out) {
     uint32_t k;
-    memcpy(out, id, parts->gap);
-    memset(out + parts->gap, '-', parts->missing);
-    memcpy(out + parts->gap + parts->missing, id + parts->gap, parts->target - parts->gap);
-    out += parts->target + parts->missing;
+    memcpy(out, id, parts->processor);
+    memset(out + parts->processor, '-', parts->missing);
+    out += parts->processor + parts->missing;
+    memcpy(out, parts->primary, parts->primary_length);
+    out += parts->primary_length;
     for (k = 0; k < parts->features; k++) {
         *out++ = ':';
         memcpy(out, id + parts->feature[k].start, parts->feature[k].length);
@@ -197,19 +234,23 @@ static void write_canonical(const uint8_t *id, const struct parts *parts, uint8_
 }
 
 /* Reads an ID, with room for its canonical form. 0 if it breaks the rules. */
-static int read_id(const uint8_t *id, uint32_t length, uint8_t *scratch, struct id *read) {
+static int read_id(enum reading reading, const uint8_t *id, uint32_t length, uint8_t *scratch, struct id *read) {
     struct parts parts;
     if (!read_target(id, length, &parts) || !read_processor(id, &parts) || !read_features(id, length, &parts))
         return 0;
-    if ((parts.features > 0 && parts.processor == parts.target) || length + parts.missing > ID_LIMIT)
+    if (parts.features > 0 && parts.processor == parts.target)
+        return 0;
+    if (reading == AMDGPU && in_profile(id, &parts) && !read_profile(id, &parts))
+        return 0;
+    read->target = parts.processor + parts.missing + parts.primary_length;
+    read->length = read->target + length - parts.target;
+    if (read->length > ID_LIMIT)
         return 0;
     read->text = id;
-    if (parts.missing > 0 || !parts.sorted) {
+    if (parts.missing > 0 || !parts.sorted || parts.primary != id + parts.processor) {
         write_canonical(id, &parts, scratch);
         read->text = scratch;
     }
-    read->length = length + parts.missing;
-    read->target = parts.target + parts.missing;
     read->kind = parts.kind;
     read->kind_length = parts.dashes[0];
     read->target_hash = hash_from(parts.kind, read->text, read->kind_length, read->target);
@@ -247,10 +288,10 @@ static struct refusal read_table(const uint8_t *bytes, size_t length, struct bun
 }
 
 /* 5 and 6. */
-static struct refusal read_entries(struct bundle *bundle, size_t end, size_t length) {
+static struct refusal read_entries(enum reading reading, struct bundle *bundle, size_t end, size_t length) {
     uint64_t k;
     for (k = 0; k < bundle->count; k++)
-        if (!read_id(bundle->entries[k].id, bundle->entries[k].id_length, bundle->scratch[k], &bundle->ids[k]))
+        if (!read_id(reading, bundle->entries[k].id, bundle->entries[k].id_length, bundle->scratch[k], &bundle->ids[k]))
             return (struct refusal){ID, k};
     for (k = 0; k < bundle->count; k++) {
         const struct entry *entry = &bundle->entries[k];
@@ -365,13 +406,13 @@ static struct refusal compare_entries(const struct bundle *bundle) {
     return refusal;
 }
 
-static struct refusal read_bundle(const uint8_t *bytes, size_t length, struct bundle *bundle) {
+static struct refusal read_bundle(enum reading reading, const uint8_t *bytes, size_t length, struct bundle *bundle) {
     struct refusal refusal = {read_head(bytes, length), 0};
     size_t end;
     if (refusal.number == OK)
         refusal = read_table(bytes, length, bundle, &end);
     if (refusal.number == OK)
-        refusal = read_entries(bundle, end, length);
+        refusal = read_entries(reading, bundle, end, length);
     if (refusal.number == OK)
         refusal = compare_images(bundle);
     if (refusal.number == OK)
@@ -379,10 +420,18 @@ static struct refusal read_bundle(const uint8_t *bytes, size_t length, struct bu
     return refusal;
 }
 
-struct checked baseline_check(const uint8_t *bytes, size_t length) {
+static struct checked check(enum reading reading, const uint8_t *bytes, size_t length) {
     struct bundle bundle;
-    struct refusal refusal = read_bundle(bytes, length, &bundle);
+    struct refusal refusal = read_bundle(reading, bytes, length, &bundle);
     return (struct checked){refusal.number, refusal.place, refusal.number == OK ? bundle.count : 0};
+}
+
+struct checked baseline_check(const uint8_t *bytes, size_t length) {
+    return check(GENERAL, bytes, length);
+}
+
+struct checked baseline_amdgpu_check(const uint8_t *bytes, size_t length) {
+    return check(AMDGPU, bytes, length);
 }
 
 /* The length of the feature at `at`: its colon, name and sign. */
@@ -407,15 +456,15 @@ static int compatible(const struct id *entry, const struct id *device) {
     return at == entry->length;
 }
 
-struct picked baseline_pick(const uint8_t *bytes, size_t length, const uint8_t *name, size_t name_length) {
+static struct picked pick(enum reading reading, const uint8_t *bytes, size_t length, const uint8_t *name, size_t name_length) {
     struct bundle bundle;
-    struct refusal refusal = read_bundle(bytes, length, &bundle);
+    struct refusal refusal = read_bundle(reading, bytes, length, &bundle);
     uint8_t scratch[ID_LIMIT];
     struct id device;
     uint64_t k;
     if (refusal.number != OK)
         return (struct picked){refusal.number, refusal.place, 0, 0, 0};
-    if (name_length == 0 || name_length > ID_LIMIT || !read_id(name, (uint32_t)name_length, scratch, &device))
+    if (name_length == 0 || name_length > ID_LIMIT || !read_id(reading, name, (uint32_t)name_length, scratch, &device))
         return (struct picked){QUERY, 0, 0, 0, 0};
     for (k = 0; k < bundle.count; k++)
         if (compatible(&bundle.ids[k], &device))
@@ -423,9 +472,17 @@ struct picked baseline_pick(const uint8_t *bytes, size_t length, const uint8_t *
     return (struct picked){NONE, 0, 0, 0, 0};
 }
 
+struct picked baseline_pick(const uint8_t *bytes, size_t length, const uint8_t *name, size_t name_length) {
+    return pick(GENERAL, bytes, length, name, name_length);
+}
+
+struct picked baseline_amdgpu_pick(const uint8_t *bytes, size_t length, const uint8_t *name, size_t name_length) {
+    return pick(AMDGPU, bytes, length, name, name_length);
+}
+
 struct located baseline_entry(const uint8_t *bytes, size_t length, uint64_t index) {
     struct bundle bundle;
-    struct refusal refusal = read_bundle(bytes, length, &bundle);
+    struct refusal refusal = read_bundle(GENERAL, bytes, length, &bundle);
     const struct entry *entry;
     if (refusal.number != OK)
         return (struct located){refusal.number, refusal.place, 0, 0, 0, 0};
@@ -491,9 +548,9 @@ static void write_normal(const uint8_t *bytes, const struct bundle *bundle, uint
     }
 }
 
-struct written baseline_normalise(const uint8_t *bytes, size_t length, uint8_t *out, size_t room) {
+static struct written normalise(enum reading reading, const uint8_t *bytes, size_t length, uint8_t *out, size_t room) {
     struct bundle bundle;
-    struct refusal refusal = read_bundle(bytes, length, &bundle);
+    struct refusal refusal = read_bundle(reading, bytes, length, &bundle);
     uint64_t table, normal;
     if (refusal.number != OK)
         return (struct written){refusal.number, refusal.place, 0};
@@ -504,4 +561,12 @@ struct written baseline_normalise(const uint8_t *bytes, size_t length, uint8_t *
         return (struct written){ROOM, 0, 0};
     write_normal(bytes, &bundle, table, out);
     return (struct written){OK, 0, normal};
+}
+
+struct written baseline_normalise(const uint8_t *bytes, size_t length, uint8_t *out, size_t room) {
+    return normalise(GENERAL, bytes, length, out, room);
+}
+
+struct written baseline_amdgpu_normalise(const uint8_t *bytes, size_t length, uint8_t *out, size_t room) {
+    return normalise(AMDGPU, bytes, length, out, room);
 }

@@ -26,6 +26,11 @@ struct picked baseline_pick(const uint8_t *bundle, size_t length, const uint8_t 
 struct located baseline_entry(const uint8_t *bundle, size_t length, uint64_t index);
 struct written baseline_normalise(const uint8_t *bundle, size_t length, uint8_t *out, size_t room);
 
+/* By the profile for AMD's GPUs. */
+struct checked baseline_amdgpu_check(const uint8_t *bundle, size_t length);
+struct picked baseline_amdgpu_pick(const uint8_t *bundle, size_t length, const uint8_t *device, size_t device_length);
+struct written baseline_amdgpu_normalise(const uint8_t *bundle, size_t length, uint8_t *out, size_t room);
+
 enum { PAIRS = 32 };
 
 struct pair {

@@ -5,7 +5,7 @@ use std::process::Command;
 
 fn main() {
     let folder = env::var("OUT_DIR").expect("cargo sets it");
-    for source in ["baseline", "baseline_binaries"] {
+    for source in ["baseline", "baseline_processors", "baseline_binaries"] {
         let object = format!("{folder}/{source}.o");
         // Where the linker puts a loop would otherwise change its time by a fifth.
         run(Command::new("gcc")
@@ -16,6 +16,7 @@ fn main() {
         println!("cargo:rerun-if-changed={source}.c");
     }
     println!("cargo:rerun-if-changed=baseline.h");
+    println!("cargo:rerun-if-changed=baseline_processors.h");
     println!("cargo:rustc-link-search=native={folder}");
     println!("cargo:rustc-link-lib=static=baseline");
     println!("cargo:rustc-link-search=native=../target/staticlib");

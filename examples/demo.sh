@@ -50,6 +50,15 @@ echo
 show explain "$bundle" hip-amdgcn-amd-amdhsa--gfx906 || [ $? = 4 ]
 
 echo
+echo "A slip in a device name looks like a card without an image. The profile for AMD's GPUs tells the two apart:"
+echo
+show pick "$bundle" hip-amdgcn-amd-amdhsa--gfx1O30 --profile amdgpu 2>&1 || [ $? = 1 ]
+echo
+echo 'It knows the alternative names of processors, too: an image for fiji is one for gfx803.'
+echo
+show pick samples/bundles/alternative.bundle hip-amdgcn-amd-amdhsa--gfx803 --profile amdgpu
+
+echo
 echo 'A file that was cut short is refused, and the message names the entry:'
 echo
 head -c 17000 "$bundle" >"$work/short.bundle"

@@ -34,7 +34,8 @@ static void load_on_card(const uint8_t *image, uint64_t size) {
     printf("%" PRIu64 " bytes for the card, the first is %u\n", size, size > 0 ? image[0] : 0);
 }
 
-/* Loads the image for the device, or says why there is none. */
+/* Loads the image for the device, or says why there is none. With offload_amdgpu_pick in the place of offload_pick, a processor or feature of an AMD
+ * card that is spelled wrongly is refused (QUERY), and does not look like a card without an image (NONE). */
 static enum status load(const uint8_t *bundle, size_t length, const char *device) {
     struct offload_pick_answer pick = offload_pick(bundle, length, (const uint8_t *)device, strlen(device));
     switch (pick.number) {

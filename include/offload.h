@@ -18,9 +18,11 @@
  * A refusal has its number and its place, and 0 in every other number; it writes nothing. Where a call is accepted, the
  * number is OFFLOAD_OK and the place is 0. One entry that breaks the rules refuses the whole bundle, for every device.
  *
- * Each call is proved to return the field of its name in the definition of its family (crates/bundle/specs), and the
- * normalise calls to leave in the whole output what the definition says. The inline functions are plain C and not
- * proved. */
+ * Each call is proved to return the field of its name in the definition of its family (crates/bundle/specs), by the
+ * rules of IDs that are its own (crates/entry_id/specs), and the normalise calls to leave in the whole output what the
+ * definition says. The inline functions are plain C and not proved.
+ *
+ * The calls with amdgpu in their names, at the end, read some IDs more strictly: by a profile for AMD's GPUs. */
 #ifndef OFFLOAD_H
 #define OFFLOAD_H
 
@@ -196,7 +198,7 @@ OFFLOAD_INLINE struct offload_pick_answer offload_pick(const uint8_t *bundle, si
  * length: how many bytes are written at the start of out, at least 32; what lies beyond is unchanged.
  *
  * Room: a normal form takes 32 bytes and, for each entry, 24, the length of its canonical ID and the size of its image.
- * A canonical ID is longer than the ID by two hyphens at most, so bundle_length + 2 * OFFLOAD_ENTRIES is enough unless
+ * A canonical ID is longer than the ID by two bytes at most, so bundle_length + 2 * OFFLOAD_ENTRIES is enough unless
  * entries share one image. Always enough are 32 and, for each entry as offload_entry gives it, 26 + id_length + size;
  * or, without looking at entries, the lesser of OFFLOAD_LIMIT and OFFLOAD_ENTRIES * (bundle_length + 2). */
 uint64_t offload_normalise_number(const uint8_t *bundle, size_t bundle_length, uint8_t *out, size_t out_length);
@@ -214,6 +216,81 @@ OFFLOAD_INLINE struct offload_normalise_answer offload_normalise(const uint8_t *
     if (answer.length == 0) { /* refused: a normal form has at least 32 bytes */
         answer.number = offload_normalise_number(bundle, bundle_length, out, out_length);
         answer.place = offload_normalise_place(bundle, bundle_length, out, out_length);
+    }
+    return answer;
+}
+
+/* The profile for AMD's GPUs: a stricter reading of IDs beside the general one, with its own check, pick and normalise.
+ *
+ * It is for entry IDs and device names of kind hip, hipv4 or openmp with arch amdgcn and a processor. All others it
+ * reads as above.
+ *   - The processor is one of the names in the table of LLVM 19's AMDGPU user guide (docs/amdgpu-processors.tsv; 50
+ *     processors, 68 names), case included.
+ *   - Every feature stated is one that the table gives the processor: sramecc, xnack, or neither.
+ *   - An alternative name means its primary name, and the canonical form has the primary: fiji means gfx803. So an
+ *     entry with the one is compatible with a device name with the other, and both in one bundle are OFFLOAD_TWICE.
+ *   - The canonical form, so written, has at most 256 bytes. The ID itself has 1 to 256 bytes, as ever.
+ * An ID that breaks this is OFFLOAD_ID, a device name OFFLOAD_QUERY. So a processor that is spelled wrongly is told
+ * from a card for which the bundle has no image.
+ *
+ * No alternative name begins with gfx or sm_, so it stands behind the environment, which may be empty:
+ * hip-amdgcn-amd-amdhsa--fiji. In hip-amdgcn-amd-amdhsa-fiji it is the environment, and there is no processor.
+ *
+ * The calls take what the general calls of the same name take, and return the same numbers in the same order. A bundle
+ * that the profile accepts is accepted by offload_check too, so that offload_entry gives its entries. Normal forms have
+ * the primary names: two bundles have the same one, byte for byte, exactly when they hold the same entries by the
+ * profile. The room is as above: an alternative name is shorter than its primary by two bytes at most, and where one
+ * stands no hyphen is added. */
+uint64_t offload_amdgpu_check_number(const uint8_t *bundle, size_t bundle_length);
+uint64_t offload_amdgpu_check_place(const uint8_t *bundle, size_t bundle_length);
+uint64_t offload_amdgpu_check_count(const uint8_t *bundle, size_t bundle_length);
+
+OFFLOAD_INLINE struct offload_check_answer offload_amdgpu_check(const uint8_t *bundle, size_t bundle_length) {
+    struct offload_check_answer answer = {0, 0, 0};
+    answer.number = offload_amdgpu_check_number(bundle, bundle_length);
+    if (answer.number == OFFLOAD_OK)
+        answer.count = offload_amdgpu_check_count(bundle, bundle_length);
+    else
+        answer.place = offload_amdgpu_check_place(bundle, bundle_length);
+    return answer;
+}
+
+uint64_t offload_amdgpu_pick_number(const uint8_t *bundle, size_t bundle_length,
+                                    const uint8_t *device, size_t device_length);
+uint64_t offload_amdgpu_pick_place(const uint8_t *bundle, size_t bundle_length,
+                                   const uint8_t *device, size_t device_length);
+uint64_t offload_amdgpu_pick_index(const uint8_t *bundle, size_t bundle_length,
+                                   const uint8_t *device, size_t device_length);
+uint64_t offload_amdgpu_pick_position(const uint8_t *bundle, size_t bundle_length,
+                                      const uint8_t *device, size_t device_length);
+uint64_t offload_amdgpu_pick_size(const uint8_t *bundle, size_t bundle_length,
+                                  const uint8_t *device, size_t device_length);
+
+OFFLOAD_INLINE struct offload_pick_answer offload_amdgpu_pick(const uint8_t *bundle, size_t bundle_length,
+                                                              const uint8_t *device, size_t device_length) {
+    struct offload_pick_answer answer = {0, 0, 0, 0, 0};
+    answer.number = offload_amdgpu_pick_number(bundle, bundle_length, device, device_length);
+    if (answer.number == OFFLOAD_OK) {
+        answer.index = offload_amdgpu_pick_index(bundle, bundle_length, device, device_length);
+        answer.position = offload_amdgpu_pick_position(bundle, bundle_length, device, device_length);
+        answer.size = offload_amdgpu_pick_size(bundle, bundle_length, device, device_length);
+    } else {
+        answer.place = offload_amdgpu_pick_place(bundle, bundle_length, device, device_length);
+    }
+    return answer;
+}
+
+uint64_t offload_amdgpu_normalise_number(const uint8_t *bundle, size_t bundle_length, uint8_t *out, size_t out_length);
+uint64_t offload_amdgpu_normalise_place(const uint8_t *bundle, size_t bundle_length, uint8_t *out, size_t out_length);
+uint64_t offload_amdgpu_normalise_length(const uint8_t *bundle, size_t bundle_length, uint8_t *out, size_t out_length);
+
+OFFLOAD_INLINE struct offload_normalise_answer offload_amdgpu_normalise(const uint8_t *bundle, size_t bundle_length,
+                                                                        uint8_t *out, size_t out_length) {
+    struct offload_normalise_answer answer = {0, 0, 0};
+    answer.length = offload_amdgpu_normalise_length(bundle, bundle_length, out, out_length);
+    if (answer.length == 0) {
+        answer.number = offload_amdgpu_normalise_number(bundle, bundle_length, out, out_length);
+        answer.place = offload_amdgpu_normalise_place(bundle, bundle_length, out, out_length);
     }
     return answer;
 }

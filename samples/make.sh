@@ -1,6 +1,7 @@
 #!/usr/bin/env bash
 # Makes images/, bundles/, binaries/ and refused/ again, byte for byte, with Debian's clang-19, clang-tools-19 and lld-19 (1:19.1.7-3~deb12u1), and
-# bundles/five-fields.bundle and bundles/generic-short.bundle with Debian's clang-tools-14 (1:14.0.6-12). The files are committed: no test runs this.
+# bundles/five-fields.bundle, bundles/generic-short.bundle and bundles/alternative.bundle with Debian's clang-tools-14 (1:14.0.6-12). The files are
+# committed: no test runs this.
 set -eu
 cd "$(dirname "$0")"
 rm -rf images bundles binaries refused
@@ -18,6 +19,9 @@ amd gfx906-sramecc-xnack- gfx906:sramecc-:xnack-
 amd gfx90a-sramecc+xnack+ gfx90a:sramecc+:xnack+
 amd gfx90a-sramecc+xnack- gfx90a:sramecc+:xnack-
 amd gfx1030 gfx1030
+amd gfx801-xnack+ carrizo:xnack+
+amd gfx801-xnack- gfx801:xnack-
+amd gfx803 fiji
 # Generic processors need code objects of version 6; clang warns that these are still in development.
 amd gfx9-generic-xnack+ gfx9-generic:xnack+ -mcode-object-version=6
 amd gfx9-generic-xnack- gfx9-generic:xnack- -mcode-object-version=6
@@ -94,6 +98,11 @@ clang-offload-bundler-14 -type=o \
   -targets=host-x86_64-unknown-linux-gnu,hip-amdgcn-amd-amdhsa-gfx11-generic,hip-amdgcn-amd-amdhsa-gfx9-generic:xnack-,hip-amdgcn-amd-amdhsa-gfx9-generic:xnack+,hip-amdgcn-amd-amdhsa-gfx10-3-generic \
   -inputs=/dev/null,images/gfx11-generic.o,images/gfx9-generic-xnack-.o,images/gfx9-generic-xnack+.o,images/gfx10-3-generic.o \
   -outputs=bundles/generic-short.bundle
+
+clang-offload-bundler-14 -type=o \
+  -targets=host-x86_64-unknown-linux-gnu,hip-amdgcn-amd-amdhsa--fiji,hip-amdgcn-amd-amdhsa--carrizo:xnack+,hip-amdgcn-amd-amdhsa--gfx801:xnack- \
+  -inputs=/dev/null,images/gfx803.o,images/gfx801-xnack+.o,images/gfx801-xnack-.o \
+  -outputs=bundles/alternative.bundle
 
 # A bundle that is refused: the size of the host's image, 2692 in the bytes from 40 on, is made one more, so that it takes in the first byte of the other.
 clang-offload-bundler-19 -type=bc \

@@ -1,5 +1,5 @@
 /* Uses the library through include/offload.h alone, built as C99 and as C++: every call and every inline function, accepted
- * and refused, and each constant on both sides of its limit. */
+ * and refused, and each constant on both sides of its limit. What the profile does not concern is asked in both readings. */
 #include "offload.h"
 
 #include <inttypes.h>
@@ -11,59 +11,95 @@ enum { IMAGE = 5, BODY = 10, SPACE = 8192, OTHER = 7 };
 
 static const char host[] = "host-x86_64-unknown-linux-gnu", card[] = "hip-amdgcn-amd-amdhsa-gfx906:xnack-";
 
+/* The calls that read IDs by the general rules, or by the profile for AMD's GPUs. */
+struct reading {
+    const char *name;
+    struct offload_check_answer (*check)(const uint8_t *, size_t);
+    uint64_t (*check_number)(const uint8_t *, size_t);
+    uint64_t (*check_place)(const uint8_t *, size_t);
+    uint64_t (*check_count)(const uint8_t *, size_t);
+    struct offload_pick_answer (*pick)(const uint8_t *, size_t, const uint8_t *, size_t);
+    uint64_t (*pick_number)(const uint8_t *, size_t, const uint8_t *, size_t);
+    uint64_t (*pick_place)(const uint8_t *, size_t, const uint8_t *, size_t);
+    uint64_t (*pick_index)(const uint8_t *, size_t, const uint8_t *, size_t);
+    uint64_t (*pick_position)(const uint8_t *, size_t, const uint8_t *, size_t);
+    uint64_t (*pick_size)(const uint8_t *, size_t, const uint8_t *, size_t);
+    struct offload_normalise_answer (*normalise)(const uint8_t *, size_t, uint8_t *, size_t);
+    uint64_t (*normalise_number)(const uint8_t *, size_t, uint8_t *, size_t);
+    uint64_t (*normalise_place)(const uint8_t *, size_t, uint8_t *, size_t);
+    uint64_t (*normalise_length)(const uint8_t *, size_t, uint8_t *, size_t);
+};
+
+static const struct reading general = {
+    "general", offload_check, offload_check_number, offload_check_place, offload_check_count,
+    offload_pick, offload_pick_number, offload_pick_place, offload_pick_index, offload_pick_position, offload_pick_size,
+    offload_normalise, offload_normalise_number, offload_normalise_place, offload_normalise_length,
+};
+
+static const struct reading profile = {
+    "amdgpu", offload_amdgpu_check, offload_amdgpu_check_number, offload_amdgpu_check_place, offload_amdgpu_check_count,
+    offload_amdgpu_pick, offload_amdgpu_pick_number, offload_amdgpu_pick_place, offload_amdgpu_pick_index, offload_amdgpu_pick_position,
+    offload_amdgpu_pick_size,
+    offload_amdgpu_normalise, offload_amdgpu_normalise_number, offload_amdgpu_normalise_place, offload_amdgpu_normalise_length,
+};
+
+/* The reading that is asked. */
+static const struct reading *by = &general;
+
 static int wrong;
 
 static void expect(const char *what, const char *which, uint64_t got, uint64_t want) {
     if (got == want)
         return;
-    printf("%s: %s: %" PRIu64 " and not %" PRIu64 "\n", what, which, got, want);
+    printf("%s, %s: %s: %" PRIu64 " and not %" PRIu64 "\n", by->name, what, which, got, want);
     wrong = 1;
 }
 
 /* What each family answers: the inline function, and each call. */
 
 static void check(const char *what, const uint8_t *bundle, size_t length, uint64_t number, uint64_t place, uint64_t count) {
-    struct offload_check_answer answer = offload_check(bundle, length);
-    expect(what, "offload_check, number", answer.number, number);
-    expect(what, "offload_check, place", answer.place, place);
-    expect(what, "offload_check, count", answer.count, count);
-    expect(what, "offload_check_number", offload_check_number(bundle, length), number);
-    expect(what, "offload_check_place", offload_check_place(bundle, length), place);
-    expect(what, "offload_check_count", offload_check_count(bundle, length), count);
+    struct offload_check_answer answer = by->check(bundle, length);
+    expect(what, "check, number", answer.number, number);
+    expect(what, "check, place", answer.place, place);
+    expect(what, "check, count", answer.count, count);
+    expect(what, "check_number", by->check_number(bundle, length), number);
+    expect(what, "check_place", by->check_place(bundle, length), place);
+    expect(what, "check_count", by->check_count(bundle, length), count);
 }
 
+/* An entry is read by the general rules alone, which refuse no bundle that the profile accepts. */
 static void entry(const char *what, const uint8_t *bundle, size_t length, size_t index, uint64_t number, uint64_t place,
                   uint64_t position, uint64_t size, uint64_t id_position, uint64_t id_length) {
     struct offload_entry_answer answer = offload_entry(bundle, length, index);
-    expect(what, "offload_entry, number", answer.number, number);
-    expect(what, "offload_entry, place", answer.place, place);
-    expect(what, "offload_entry, position", answer.position, position);
-    expect(what, "offload_entry, size", answer.size, size);
-    expect(what, "offload_entry, id_position", answer.id_position, id_position);
-    expect(what, "offload_entry, id_length", answer.id_length, id_length);
-    expect(what, "offload_entry_number", offload_entry_number(bundle, length, index), number);
-    expect(what, "offload_entry_place", offload_entry_place(bundle, length, index), place);
-    expect(what, "offload_entry_position", offload_entry_position(bundle, length, index), position);
-    expect(what, "offload_entry_size", offload_entry_size(bundle, length, index), size);
-    expect(what, "offload_entry_id_position", offload_entry_id_position(bundle, length, index), id_position);
-    expect(what, "offload_entry_id_length", offload_entry_id_length(bundle, length, index), id_length);
+    expect(what, "entry, number", answer.number, number);
+    expect(what, "entry, place", answer.place, place);
+    expect(what, "entry, position", answer.position, position);
+    expect(what, "entry, size", answer.size, size);
+    expect(what, "entry, id_position", answer.id_position, id_position);
+    expect(what, "entry, id_length", answer.id_length, id_length);
+    expect(what, "entry_number", offload_entry_number(bundle, length, index), number);
+    expect(what, "entry_place", offload_entry_place(bundle, length, index), place);
+    expect(what, "entry_position", offload_entry_position(bundle, length, index), position);
+    expect(what, "entry_size", offload_entry_size(bundle, length, index), size);
+    expect(what, "entry_id_position", offload_entry_id_position(bundle, length, index), id_position);
+    expect(what, "entry_id_length", offload_entry_id_length(bundle, length, index), id_length);
 }
 
 static void pick(const char *what, const uint8_t *bundle, size_t length, const char *device, uint64_t number, uint64_t place,
                  uint64_t index, uint64_t position, uint64_t size) {
     const uint8_t *name = (const uint8_t *)device;
     size_t name_length = strlen(device);
-    struct offload_pick_answer answer = offload_pick(bundle, length, name, name_length);
-    expect(what, "offload_pick, number", answer.number, number);
-    expect(what, "offload_pick, place", answer.place, place);
-    expect(what, "offload_pick, index", answer.index, index);
-    expect(what, "offload_pick, position", answer.position, position);
-    expect(what, "offload_pick, size", answer.size, size);
-    expect(what, "offload_pick_number", offload_pick_number(bundle, length, name, name_length), number);
-    expect(what, "offload_pick_place", offload_pick_place(bundle, length, name, name_length), place);
-    expect(what, "offload_pick_index", offload_pick_index(bundle, length, name, name_length), index);
-    expect(what, "offload_pick_position", offload_pick_position(bundle, length, name, name_length), position);
-    expect(what, "offload_pick_size", offload_pick_size(bundle, length, name, name_length), size);
+    struct offload_pick_answer answer = by->pick(bundle, length, name, name_length);
+    expect(what, "pick, number", answer.number, number);
+    expect(what, "pick, place", answer.place, place);
+    expect(what, "pick, index", answer.index, index);
+    expect(what, "pick, position", answer.position, position);
+    expect(what, "pick, size", answer.size, size);
+    expect(what, "pick_number", by->pick_number(bundle, length, name, name_length), number);
+    expect(what, "pick_place", by->pick_place(bundle, length, name, name_length), place);
+    expect(what, "pick_index", by->pick_index(bundle, length, name, name_length), index);
+    expect(what, "pick_position", by->pick_position(bundle, length, name, name_length), position);
+    expect(what, "pick_size", by->pick_size(bundle, length, name, name_length), size);
 }
 
 /* The output holds these bytes, and is otherwise unchanged; it is then made fresh again. */
@@ -81,16 +117,16 @@ static void normalise(const char *what, const uint8_t *bundle, size_t length, si
     static uint8_t out[SPACE];
     struct offload_normalise_answer answer;
     memset(out, OTHER, SPACE);
-    answer = offload_normalise(bundle, length, out, room);
+    answer = by->normalise(bundle, length, out, room);
     holds(what, out, normal, written);
-    expect(what, "offload_normalise, number", answer.number, number);
-    expect(what, "offload_normalise, place", answer.place, place);
-    expect(what, "offload_normalise, length", answer.length, written);
-    expect(what, "offload_normalise_number", offload_normalise_number(bundle, length, out, room), number);
+    expect(what, "normalise, number", answer.number, number);
+    expect(what, "normalise, place", answer.place, place);
+    expect(what, "normalise, length", answer.length, written);
+    expect(what, "normalise_number", by->normalise_number(bundle, length, out, room), number);
     holds(what, out, normal, written);
-    expect(what, "offload_normalise_place", offload_normalise_place(bundle, length, out, room), place);
+    expect(what, "normalise_place", by->normalise_place(bundle, length, out, room), place);
     holds(what, out, normal, written);
-    expect(what, "offload_normalise_length", offload_normalise_length(bundle, length, out, room), written);
+    expect(what, "normalise_length", by->normalise_length(bundle, length, out, room), written);
     holds(what, out, normal, written);
 }
 
@@ -252,15 +288,22 @@ static void reads(const char *id, const char *canonical) {
     normalise(id, bundle, length, SPACE, OFFLOAD_OK, 0, normal, written);
 }
 
-/* A text that is no ID: as an entry, and as a device name. */
-static void refuses(const char *id) {
+/* A text that this reading refuses: as an entry, and as a device name. */
+static void refuses_here(const char *id) {
     static uint8_t bundle[SPACE];
     size_t length = make_two(bundle, host, "HOST.", id, "CARD.");
     check(id, bundle, length, OFFLOAD_ID, 1, 0);
-    entry(id, bundle, length, 0, OFFLOAD_ID, 1, 0, 0, 0, 0);
     pick(id, bundle, length, host, OFFLOAD_ID, 1, 0, 0, 0);
     normalise(id, bundle, length, SPACE, OFFLOAD_ID, 1, bundle, 0);
     pick(id, bundle, make_one(bundle, host), id, OFFLOAD_QUERY, 0, 0, 0, 0);
+}
+
+/* A text that is no ID. */
+static void refuses(const char *id) {
+    static uint8_t bundle[SPACE];
+    size_t length = make_two(bundle, host, "HOST.", id, "CARD.");
+    refuses_here(id);
+    entry(id, bundle, length, 0, OFFLOAD_ID, 1, 0, 0, 0, 0);
 }
 
 /* The processor starts with the fifth field or with the sixth, and runs on; no hyphen is at its ends. */
@@ -446,6 +489,114 @@ static void limits(void) {
     free(many);
 }
 
+/* The profile. */
+
+/* An ID that both readings take, with the canonical form that each makes. */
+static void reads_as(const char *id, const char *plain, const char *strict) {
+    by = &general;
+    reads(id, plain);
+    by = &profile;
+    reads(id, strict);
+}
+
+/* An ID that the profile alone refuses. */
+static void profile_refuses(const char *id) {
+    static uint8_t bundle[SPACE];
+    size_t length = make_two(bundle, host, "HOST.", id, "CARD.");
+    by = &general;
+    check(id, bundle, length, OFFLOAD_OK, 0, 2);
+    entry(id, bundle, length, 1, OFFLOAD_OK, 0, length - IMAGE, IMAGE, 56 + strlen(host) + 24, strlen(id));
+    by = &profile;
+    refuses_here(id);
+}
+
+static void profile_ids(void) {
+    static const char *const renamed[][2] = {
+        {"hip-amdgcn-amd-amdhsa--fiji", "hip-amdgcn-amd-amdhsa--gfx803"},
+        {"openmp-amdgcn-a-b-gnu-polaris11", "openmp-amdgcn-a-b-gnu-gfx803"},
+        {"hipv4-amdgcn-amd-amdhsa--stoney:xnack+", "hipv4-amdgcn-amd-amdhsa--gfx810:xnack+"},
+    };
+    static const char *const read[][2] = {
+        {"hip-amdgcn-amd-amdhsa-gfx906:xnack+:sramecc-", "hip-amdgcn-amd-amdhsa--gfx906:sramecc-:xnack+"},
+        {"hipv4-amdgcn-amd-amdhsa-gfx10-1-generic:xnack-", "hipv4-amdgcn-amd-amdhsa--gfx10-1-generic:xnack-"},
+        /* Not the profile's: another kind, another arch, no processor. */
+        {"host-amdgcn-amd-amdhsa--fiji:f+", "host-amdgcn-amd-amdhsa--fiji:f+"},
+        {"hip-amdgcn1-amd-amdhsa--fiji:f+", "hip-amdgcn1-amd-amdhsa--fiji:f+"},
+        {"hip-amdgc-amd-amdhsa-gfx907", "hip-amdgc-amd-amdhsa--gfx907"},
+        {"hip-amdgcn-amd-amdhsa-fiji", "hip-amdgcn-amd-amdhsa-fiji-"},
+        {"openmp-amdgcn-amd-amdhsa", "openmp-amdgcn-amd-amdhsa--"},
+    };
+    static const char *const refused[] = {
+        "hip-amdgcn-amd-amdhsa--gfx907", "hip-amdgcn-amd-amdhsa-gfx907", "hipv4-amdgcn-a-b-gnu-gfx9-4-generic", "openmp-amdgcn-amd-amdhsa--Fiji",
+        "hip-amdgcn-amd-amdhsa--fij", "hip-amdgcn-amd-amdhsa--fijii", "hip-amdgcn-amd-amdhsa--gfx803-fiji", "hip-amdgcn-amd-amdhsa--x",
+        "hip-amdgcn-amd-amdhsa--gfx900:sramecc+", "hip-amdgcn-amd-amdhsa--gfx1030:xnack-", "hip-amdgcn-amd-amdhsa--gfx906:cumode+",
+        "hip-amdgcn-amd-amdhsa--gfx906:sramecc+:xnack+:z+", "hip-amdgcn-amd-amdhsa--fiji:xnack+", "hip-amdgcn-amd-amdhsa--gfx90a:xnac+",
+    };
+    size_t i;
+    for (i = 0; i < sizeof renamed / sizeof *renamed; i++)
+        reads_as(renamed[i][0], renamed[i][0], renamed[i][1]);
+    for (i = 0; i < sizeof read / sizeof *read; i++)
+        reads_as(read[i][0], read[i][1], read[i][1]);
+    for (i = 0; i < sizeof refused / sizeof *refused; i++)
+        profile_refuses(refused[i]);
+}
+
+/* An ID of this length with this processor. */
+static const char *profile_id(size_t length, const char *processor) {
+    static char vendor[OFFLOAD_ID_LIMIT], text[2][OFFLOAD_ID_LIMIT + 1];
+    static int turn;
+    memset(vendor, 'v', sizeof vendor);
+    turn = 1 - turn;
+    snprintf(text[turn], sizeof text[turn], "hip-amdgcn-%.*s-s--%s", (int)(length - 15 - strlen(processor)), vendor, processor);
+    return text[turn];
+}
+
+/* The form with the primary has at most 256 bytes, and so has the text. */
+static void profile_lengths(void) {
+    const char *id = profile_id(254, "fiji");
+    reads_as(id, id, profile_id(256, "gfx803"));
+    id = profile_id(256, "polaris10");
+    reads_as(id, id, profile_id(253, "gfx803"));
+    id = profile_id(256, "gfx803");
+    reads_as(id, id, id);
+    profile_refuses(profile_id(255, "fiji"));
+    profile_refuses(profile_id(256, "fiji"));
+    profile_refuses(profile_id(256, "verde"));
+}
+
+/* Two names of one processor are one meaning. */
+static void profile_names(void) {
+    static uint8_t bundle[SPACE], normal[SPACE];
+    const char *fiji = "hip-amdgcn-amd-amdhsa--fiji", *gfx803 = "hip-amdgcn-amd-amdhsa--gfx803", *polaris10 = "hipv4-amdgcn-amd-amdhsa--polaris10";
+    const char *carrizo = "hip-amdgcn-amd-amdhsa--carrizo:xnack-", *gfx801 = "hip-amdgcn-amd-amdhsa--gfx801";
+    size_t length = make_two(bundle, host, "HOST.", fiji, "CARD.");
+    size_t written = make_two(normal, gfx803, "CARD.", "host-x86_64-unknown-linux-gnu-", "HOST.");
+
+    by = &general;
+    pick("another name, in general", bundle, length, gfx803, OFFLOAD_NONE, 0, 0, 0, 0);
+    by = &profile;
+    pick("the name as spelled", bundle, length, fiji, OFFLOAD_OK, 0, 1, length - IMAGE, IMAGE);
+    pick("the primary", bundle, length, gfx803, OFFLOAD_OK, 0, 1, length - IMAGE, IMAGE);
+    pick("another alternative, the other kind", bundle, length, polaris10, OFFLOAD_OK, 0, 1, length - IMAGE, IMAGE);
+    pick("another processor", bundle, length, carrizo, OFFLOAD_NONE, 0, 0, 0, 0);
+    pick("an unknown processor", bundle, length, "hip-amdgcn-amd-amdhsa--gfx907", OFFLOAD_QUERY, 0, 0, 0, 0);
+    pick("an unknown processor, a byte short", bundle, length - 1, "hip-amdgcn-amd-amdhsa--gfx907", OFFLOAD_RANGE, 1, 0, 0, 0);
+    normalise("the primary is written", bundle, length, SPACE, OFFLOAD_OK, 0, normal, written);
+    normalise("room for the primary", bundle, length, written, OFFLOAD_OK, 0, normal, written);
+    normalise("a byte less room", bundle, length, written - 1, OFFLOAD_ROOM, 0, normal, 0);
+    normalise("again", normal, written, written, OFFLOAD_OK, 0, normal, written);
+
+    by = &general;
+    check("two names, in general", bundle, make_two(bundle, fiji, "ONE..", gfx803, "TWO.."), OFFLOAD_OK, 0, 2);
+    by = &profile;
+    check("two names", bundle, make_two(bundle, fiji, "ONE..", gfx803, "TWO.."), OFFLOAD_TWICE, 1, 0);
+    check("two alternatives, two kinds", bundle, make_two(bundle, fiji, "ONE..", polaris10, "TWO.."), OFFLOAD_TWICE, 1, 0);
+    check("other features", bundle, make_two(bundle, carrizo, "ONE..", gfx801, "TWO.."), OFFLOAD_MIXED, 1, 0);
+    length = make_two(bundle, carrizo, "ONE..", "hip-amdgcn-amd-amdhsa--gfx801:xnack+", "TWO..");
+    check("the other sign", bundle, length, OFFLOAD_OK, 0, 2);
+    pick("the second of two names", bundle, length, "hip-amdgcn-amd-amdhsa--carrizo:xnack+", OFFLOAD_OK, 0, 1, length - IMAGE, IMAGE);
+}
+
 static void named(uint64_t number, const char *name) {
     expect(name, "offload_name", (uint64_t)strcmp(offload_name(number), name), 0);
 }
@@ -480,7 +631,9 @@ static void names(void) {
     expect("version", version, (uint64_t)strcmp(version, OFFLOAD_VERSION), 0);
 }
 
-int main(void) {
+/* What both readings answer alike. */
+static void alike(const struct reading *reading) {
+    by = reading;
     two_entries();
     kinds();
     processors();
@@ -488,6 +641,14 @@ int main(void) {
     order();
     many_images();
     limits();
+}
+
+int main(void) {
+    alike(&general);
+    alike(&profile);
+    profile_ids();
+    profile_lengths();
+    profile_names();
     names();
     return wrong;
 }

@@ -43,11 +43,16 @@ ends_if_installed() {
 }
 
 printf '%-42s %8s %8s %8s %8s\n' "${#files[@]} damaged files" answered refused crashed hung
-ends 'offload check' '[01]' "$offload" check FILE
-ends 'offload list' '[01]' "$offload" list FILE
-ends 'offload pick' '[014]' "$offload" pick FILE $target -o "$out/image"
-ends 'offload explain' '[014]' "$offload" explain FILE $target
-ends 'offload normalise' '[01]' "$offload" normalise FILE -o "$out/normal"
+for profile in '' ' --profile amdgpu'; do
+  # shellcheck disable=SC2086
+  {
+    ends "offload check$profile" '[01]' "$offload" check FILE$profile
+    ends "offload list$profile" '[01]' "$offload" list FILE$profile
+    ends "offload pick$profile" '[014]' "$offload" pick FILE $target -o "$out/image"$profile
+    ends "offload explain$profile" '[014]' "$offload" explain FILE $target$profile
+    ends "offload normalise$profile" '[01]' "$offload" normalise FILE -o "$out/normal"$profile
+  }
+done
 [ "${3-}" = llvm ] || exit $wrong
 ends_if_installed clang-offload-bundler -list -type=o -input=FILE
 ends_if_installed clang-offload-bundler -unbundle -type=o -targets=$target -input=FILE -output="$out/image"

@@ -46,27 +46,27 @@ expect() {
   [[ $status == "$1" && $verdict == "$2" ]] || { printf 'wrong: %s: status %s, %s\n' "$3" "$status" "$verdict"; cat said; wrong=1; }
 }
 
-# Five of `rt ci`, and 14 parts.
-expect 0 '19 passed, 0 failed' nothing
+# Five of `rt ci`, and 15 parts.
+expect 0 '20 passed, 0 failed' nothing
 grep -q '^  4 of 4: bench_calls proved (1 s)$' said
 grep -q '^  1 of 1 edits: one/wrong: refused' said
 grep -qx 'calls: passed ([0-9]* s)' said
-expect 1 '18 passed, 1 failed' fmt
-expect 1 '18 passed, 1 failed' 'make selftest'
-expect 1 '18 passed, 1 failed' 'make second-test'
-expect 1 '18 passed, 1 failed' 'make damage'
-expect 1 '18 passed, 1 failed' 'kill calls'
-expect 1 '18 passed, 1 failed' edit
-expect 1 '19 passed, 1 failed' status
-expect 1 '14 passed, 1 failed' silent
-# The library is not proved, or not built: its ten parts have failed.
-expect 1 '4 passed, 11 failed' ci
-expect 1 '4 passed, 11 failed' killed
-expect 1 '4 passed, 11 failed' died
+expect 1 '19 passed, 1 failed' fmt
+expect 1 '19 passed, 1 failed' 'make selftest'
+expect 1 '19 passed, 1 failed' 'make second-test'
+expect 1 '19 passed, 1 failed' 'make damage'
+expect 1 '19 passed, 1 failed' 'kill calls'
+expect 1 '19 passed, 1 failed' edit
+expect 1 '20 passed, 1 failed' status
+expect 1 '15 passed, 1 failed' silent
+# The library is not proved, or not built: its eleven parts have failed.
+expect 1 '4 passed, 12 failed' ci
+expect 1 '4 passed, 12 failed' killed
+expect 1 '4 passed, 12 failed' died
 grep -q '^Did not run to the end: library compare ' said
-expect 1 '9 passed, 10 failed' 'make harness'
+expect 1 '9 passed, 11 failed' 'make harness'
 # Something that the gate needs is missing: nothing runs.
-expect 2 '0 passed, 15 failed' 'make tools'
+expect 2 '0 passed, 16 failed' 'make tools'
 
 # A gate that is ended says so, and ends what it started (a process that nobody waited for is a zombie).
 ended() { [[ ! -e /proc/$1 || $(cut -d ' ' -f 3 "/proc/$1/stat") == Z ]]; }

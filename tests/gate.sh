@@ -9,7 +9,7 @@ set -uo pipefail
 unset MAKEFLAGS MAKELEVEL # of the `make` that runs this
 cd "$(dirname "$0")/.." || exit 2
 
-parts=(format rt-ci second-test gate-test selftest library compare calls stack example tool-test install-test build-test order damage)
+parts=(format rt-ci second-test gate-test selftest library compare calls stack example tool-test install-test build-test order profile damage)
 kept=$(mktemp -d) || exit 2 # `rt ci` removes target/
 crates=$(scripts/crates.sh | wc -l)
 edits=$(find crates -path '*/must-fail/*.edit' | wc -l)
@@ -44,7 +44,7 @@ proved() {
 on_the_library() {
   proved offload && proved harness && proved bench_calls && part library nice -n 5 make harness tool || return
   make_parts compare &
-  make_parts calls stack example tool-test install-test build-test order
+  make_parts calls stack example tool-test install-test build-test order profile
   part damage nice -n 5 make damage DAMAGED=500 LLVM=
   wait
 }

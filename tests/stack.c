@@ -8,10 +8,10 @@
 
 enum { STACK = 1 << 20, LIMIT = 64 << 10, PAINT = 0xA5, IMAGE = 100000 };
 
-static const char head[] = "hip-amdgcn-amd-amdhsa--gfx906";
 static const char device[] = "hip-amdgcn-amd-amdhsa--gfx906:f0+:f1+:f2+:f3+:f4+:f5+";
-static uint8_t bundle[OFFLOAD_ENTRIES * (24 + sizeof device) + IMAGE], normal[OFFLOAD_ENTRIES * (24 + sizeof device + IMAGE)];
-static size_t length;
+static const char profile_device[] = "hip-amdgcn-amd-amdhsa-e15-carrizo:xnack+";
+static uint8_t bundle[32 + OFFLOAD_ENTRIES * (24 + sizeof device) + IMAGE], normal[32 + OFFLOAD_ENTRIES * (24 + sizeof device + IMAGE)];
+static const size_t length = sizeof bundle;
 
 static void word(uint8_t *out, uint64_t value) {
     int i;
@@ -19,26 +19,34 @@ static void word(uint8_t *out, uint64_t value) {
         out[i] = (uint8_t)(value >> (8 * i));
 }
 
-/* Entry k: the k-th setting of six features, spelled backwards so that they have to be sorted. All share one image at the end. */
-static size_t entry(uint8_t *out, unsigned k) {
-    size_t size = sizeof head - 1;
+/* The ID of entry k: the k-th setting of six features, spelled backwards so that they have to be sorted. */
+static size_t general_id(char *out, unsigned k) {
+    size_t size = (size_t)sprintf(out, "hip-amdgcn-amd-amdhsa--gfx906");
     int feature;
-    memcpy(out + 24, head, size);
     for (feature = 5; feature >= 0; feature--)
-        size += (size_t)sprintf((char *)out + 24 + size, ":f%d%c", feature, k >> feature & 1 ? '+' : '-');
-    word(out, sizeof bundle - IMAGE);
-    word(out + 8, IMAGE);
-    word(out + 16, size);
-    return 24 + size;
+        size += (size_t)sprintf(out + size, ":f%d%c", feature, k >> feature & 1 ? '+' : '-');
+    return size;
 }
 
-static void make_bundle(void) {
+/* One that the profile takes: in each of 16 environments two settings of a processor by its alternative name, and two of features to be sorted. */
+static size_t profile_id(char *out, unsigned k) {
+    const char *format = k & 2 ? "hip-amdgcn-amd-amdhsa-e%02u-gfx906:xnack%c:sramecc+" : "hip-amdgcn-amd-amdhsa-e%02u-carrizo:xnack%c";
+    return (size_t)sprintf(out, format, k / 4, k & 1 ? '+' : '-');
+}
+
+/* A bundle of the most entries, which share one image at the end. */
+static void make_bundle(size_t (*id)(char *, unsigned)) {
+    uint8_t *row = bundle + 32;
     unsigned k;
     memcpy(bundle, "__CLANG_OFFLOAD_BUNDLE__", 24);
     word(bundle + 24, OFFLOAD_ENTRIES);
-    for (length = 32, k = 0; k < OFFLOAD_ENTRIES; k++)
-        length += entry(bundle + length, k);
-    length = sizeof bundle;
+    for (k = 0; k < OFFLOAD_ENTRIES; k++) {
+        size_t size = id((char *)row + 24, k);
+        word(row, length - IMAGE);
+        word(row + 8, IMAGE);
+        word(row + 16, size);
+        row += 24 + size;
+    }
 }
 
 static void *nothing(void *out) { return out; }
@@ -60,6 +68,21 @@ static void *pick(void *out) {
 
 static void *normalise(void *out) {
     *(uint64_t *)out = offload_normalise_number(bundle, length, normal, sizeof normal);
+    return out;
+}
+
+static void *profile_check(void *out) {
+    *(uint64_t *)out = offload_amdgpu_check_number(bundle, length);
+    return out;
+}
+
+static void *profile_pick(void *out) {
+    *(uint64_t *)out = offload_amdgpu_pick_number(bundle, length, (const uint8_t *)profile_device, sizeof profile_device - 1);
+    return out;
+}
+
+static void *profile_normalise(void *out) {
+    *(uint64_t *)out = offload_amdgpu_normalise_number(bundle, length, normal, sizeof normal);
     return out;
 }
 
@@ -86,14 +109,24 @@ int main(void) {
     static const struct {
         const char *name;
         void *(*call)(void *);
-    } calls[] = {{"check", check}, {"entry", entry_at}, {"pick", pick}, {"normalise", normalise}};
+        size_t (*id)(char *, unsigned); /* of the bundle */
+    } calls[] = {
+        {"check", check, general_id},
+        {"entry", entry_at, general_id},
+        {"pick", pick, general_id},
+        {"normalise", normalise, general_id},
+        {"check by the profile", profile_check, profile_id},
+        {"pick by the profile", profile_pick, profile_id},
+        {"normalise by the profile", profile_normalise, profile_id},
+    };
     size_t base, i;
     uint64_t answer = 0;
     int wrong = 0;
-    make_bundle();
     base = depth(nothing, &answer);
     for (i = 0; i < sizeof calls / sizeof *calls; i++) {
-        size_t bytes = depth(calls[i].call, &answer) - base;
+        size_t bytes;
+        make_bundle(calls[i].id);
+        bytes = depth(calls[i].call, &answer) - base;
         printf("stack of %s: %zu bytes\n", calls[i].name, bytes);
         if (bytes >= LIMIT || answer != OFFLOAD_OK) {
             printf("wrong: answer %llu, at most %d bytes\n", (unsigned long long)answer, LIMIT - 1);

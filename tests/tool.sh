@@ -10,6 +10,8 @@ cards=$samples/bundles/three-cards.bundle
 fields=$samples/bundles/five-fields.bundle
 generic=$samples/bundles/generic.bundle
 short=$samples/bundles/generic-short.bundle
+alternative=$samples/bundles/alternative.bundle
+processors=$top/docs/amdgpu-processors.tsv
 folder=$(mktemp -d)
 trap 'rm -rf "$folder"' EXIT
 mkdir "$folder/some files"
@@ -48,10 +50,12 @@ statuses='*Exit status:*0  accepted*1  refused*2  bad usage*3  a file *4  no ima
 all="offload [0-9]*.[0-9]*.[0-9]*: bundles of GPU images*offload check FILE*offload pick FILE DEVICE [[]-o OUT] *$statuses"
 for word in help -h --help; do
   expect 0 "$all" '' $word
-  expect 0 "offload list FILE [[]--json]*for each entry*$statuses" '' $word list
+  expect 0 "offload list FILE [[]--profile amdgpu] [[]--json]*for each entry*$statuses" '' $word list
   expect 0 'Entry IDs*id * 1 to 256 bytes*kind * "hip"*canonical = kind-arch-vendor-system-environment-processor*hip and hipv4 are one kind*' '' $word id
+  expect 0 "The profile for AMD's GPUs, --profile amdgpu: *5 ID*9 QUERY*fiji means gfx803*" '' $word profile
   expect 2 '' $'offload: no help about me\nTry: offload help' $word me
   expect 2 '' $'offload: unexpected word pick\nTry: offload help' $word check pick
+  expect 2 '' $'offload: unexpected word check\nTry: offload help' $word profile check
 done
 lines=$("$offload" help id | wc -l)
 [ "$lines" -le 17 ] || fail "help id has $lines lines"
@@ -63,12 +67,38 @@ sed -n "$grammar p" "$top/docs/RULES.md" >../rules
 same ../rules ../header
 same ../help ../header
 [ "$(wc -l <../header)" = 10 ] || fail 'the grammar of IDs in the header'
+# The processors of the profile stand in three places too, and each is what the table has: RULES, help profile and the manual page.
+# named SRAMECC XNACK: the processors with these marks, with their alternative names.
+named() {
+  local primary others sramecc xnack text=
+  while IFS='|' read -r primary others sramecc xnack; do
+    [ "$sramecc$xnack" = "$1$2" ] && text+=", $primary${others:+ (${others//,/, })}"
+  done < <(grep -v '^#' "$processors" | tr '\t' '|')
+  printf %s "${text#, }"
+}
+# words FILE: its words, with one space between two, and without roff's backslashes.
+words() {
+  tr -d '\134' <"$1" | tr -s '\n ' '  '
+}
+"$offload" help profile >../help
+# has PLACE TEXT WANTED
+has() {
+  tried=$((tried + 1))
+  [[ $2 == *"$3"* ]] || fail "$1 has not: $3"
+}
+has 'help profile' "$(words ../help)" "sramecc, xnack $(named 1 1) xnack $(named 0 1) none $(named 0 0)"
+for marks in '1 1 sramecc, xnack' '0 1 xnack' '0 0 none'; do
+  read -r sramecc xnack features <<<"$marks"
+  has RULES "$(<"$top/docs/RULES.md")" $'\n'"| $features | $(named "$sramecc" "$xnack") |"$'\n'
+  has 'the manual page' "$(words "$top/tool/offload.1")" " $features $(named "$sramecc" "$xnack") ."
+done
+is 'rows of the table' "$(grep -vc '^#' "$processors")" 50
 help() {
-  local word
-  expect 0 "offload $2 [[]--json]*$statuses" '' help "$1"
+  local word pattern="offload $2 [[]--profile amdgpu] [[]--json]*$statuses"
+  expect 0 "$pattern" '' help "$1"
   for word in -h --help; do
-    expect 0 "offload $2 [[]--json]*$statuses" '' "$1" $word
-    expect 0 "offload $2 [[]--json]*$statuses" '' "$1" missing $word more
+    expect 0 "$pattern" '' "$1" $word
+    expect 0 "$pattern" '' "$1" missing $word more
   done
 }
 help check 'check FILE'
@@ -108,6 +138,17 @@ usage 'unexpected word more' pick pick "$cards" gfx906 more
 usage 'missing -o OUT' normalise normalise "$cards"
 usage 'missing -o OUT' normalise normalize "$cards"
 usage 'missing FILE' normalise normalise -o out
+usage 'the only profile is amdgpu, not nvptx' check check "$cards" --profile nvptx
+usage 'the only profile is amdgpu, not AMDGPU' list list --profile=AMDGPU "$cards"
+usage 'the only profile is amdgpu, not --json' check check --profile --json "$cards"
+usage 'no name after --profile' pick pick "$cards" gfx906 --profile
+usage 'no name after --profile' explain explain "$cards" gfx906 --profile=
+usage 'no name after --profile' explain explain "$cards" gfx906 --profile ''
+usage 'a second --profile' normalise normalise --profile amdgpu "$cards" -o out --profile=amdgpu
+usage 'unknown option --profiles' check check --profiles amdgpu "$cards"
+usage 'unknown option --profile' '' --profile amdgpu check "$cards"
+usage 'unexpected word --profile' check check -- "$cards" --profile amdgpu
+usage 'missing FILE' check check --profile amdgpu
 holds
 
 # Accepted bundles.
@@ -118,6 +159,7 @@ expect 0 'accepted, entries 1' '' check "$samples/bundles/host-only.bundle"
 expect 0 'accepted, entries 4' '' check "$fields"
 expect 0 'accepted, entries 6' '' check "$generic"
 expect 0 'accepted, entries 5' '' check "$short"
+expect 0 'accepted, entries 4' '' check "$alternative"
 bundle 0 >none
 expect 0 'accepted, entries 0' '' check none
 expect 0 '{"file":"none","number":0,"name":"OK","entries":0}' '' check none --json
@@ -202,9 +244,9 @@ rm ./-
 refusal() {
   printf 'offload: %s: %s%s: *.%s\n  *.' "$1" "$2" "${3:+, $3}" "${4:+ $4}"
 }
-# object FILE NUMBER NAME KEYS: a refusal in JSON.
+# object FILE NUMBER NAME [KEYS [PROFILE]]: a refusal in JSON.
 object() {
-  printf '{"file":"%s","number":%s,"name":"%s",%s"sentence":"*.",*"advice":"*."*}' "$1" "$2" "$3" "${4-}"
+  printf '{"file":"%s",%s"number":%s,"name":"%s",%s"sentence":"*.",*"advice":"*."*}' "$1" "${5:+\"profile\":\"$5\",}" "$2" "$3" "${4-}"
 }
 expect 1 '' "$(refusal "$cards" '9 QUERY' 'device "gfx906"')$left" pick "$cards" gfx906 -o out
 expect 1 '' "$(refusal "$cards" '9 QUERY' 'device ""')" pick "$cards" '' -o new
@@ -673,6 +715,257 @@ long=hip-a-b-c-gfx9-$(printf 'x%.0s' {1..240})
 reads "$long" "${long/-gfx/--gfx}" "${long#hip-a-b-c-}"
 refuses "${long}x"
 holds apart canonical entry image mixed normal twice
+rm ./*
+
+# The profile for AMD's GPUs. All samples keep it, and the option may stand anywhere.
+by=(--profile amdgpu)
+for sample in "${accepted[@]}"; do
+  expect 0 'accepted, entries [1-8]' '' check "$sample" --profile amdgpu
+  expect 0 "{\"file\":\"$sample\",\"profile\":\"amdgpu\",\"number\":0,\"name\":\"OK\",\"entries\":[1-8]}" '' check --json --profile=amdgpu "$sample"
+  [ "$sample" = "$alternative" ] && continue
+  # Without alternative names nothing else changes.
+  is "list of $sample" "$("$offload" list "$sample" "${by[@]}")" "$("$offload" list "$sample")"
+  expect 0 'written, length *' '' normalise "$sample" -o normal
+  expect 0 'written, length *' '' normalise "$sample" "${by[@]}" -o strict
+  same strict normal
+done
+rm ./*
+# Alternative names mean their primaries, which the canonical form has.
+expect 0 'INDEX     OFFSET       SIZE  ID                                     SPELLED
+    0        257          0  host-x86_64-unknown-linux-gnu-         host-x86_64-unknown-linux-gnu
+    1        257       2032  hip-amdgcn-amd-amdhsa--fiji
+    2       2289       2040  hip-amdgcn-amd-amdhsa--carrizo:xnack+
+    3       4329       2040  hip-amdgcn-amd-amdhsa--gfx801:xnack-' '' list "$alternative"
+expect 0 'INDEX     OFFSET       SIZE  ID                                    SPELLED
+    0        257          0  host-x86_64-unknown-linux-gnu-        host-x86_64-unknown-linux-gnu
+    1        257       2032  hip-amdgcn-amd-amdhsa--gfx803         hip-amdgcn-amd-amdhsa--fiji
+    2       2289       2040  hip-amdgcn-amd-amdhsa--gfx801:xnack+  hip-amdgcn-amd-amdhsa--carrizo:xnack+
+    3       4329       2040  hip-amdgcn-amd-amdhsa--gfx801:xnack-' '' list "$alternative" "${by[@]}"
+expect 0 '{"index":0,*,"spelled":"host-x86_64-unknown-linux-gnu"}
+{"index":1,"offset":257,"size":2032,"id":"hip-amdgcn-amd-amdhsa--gfx803","spelled":"hip-amdgcn-amd-amdhsa--fiji"}
+{"index":2,*"id":"hip-amdgcn-amd-amdhsa--gfx801:xnack+","spelled":"hip-amdgcn-amd-amdhsa--carrizo:xnack+"}
+{"index":3,"offset":4329,"size":2040,"id":"hip-amdgcn-amd-amdhsa--gfx801:xnack-"}' '' list --json "${by[@]}" "$alternative"
+target=hip-amdgcn-amd-amdhsa-
+# gets INDEX IMAGE DEVICE..: by the profile each of these names of one processor gets the image, and explain says so. Without, only the one as spelled.
+gets() {
+  local index=$1 image=$samples/images/$2.o device
+  shift 2
+  for device; do
+    expect 0 "entry $index, *" '' pick "$alternative" "$device" "${by[@]}" -o out
+    same out "$image"
+    expect 0 "{*\"id\":\"*\",\"fits\":true}"$'\n*' '' explain "$alternative" "$device" --json "${by[@]}"
+  done
+}
+gets 1 gfx803 $target-fiji $target-gfx803 ${target}gfx803 $target-polaris10 $target-polaris11 hipv4-amdgcn-amd-amdhsa--fiji
+gets 2 gfx801-xnack+ $target-carrizo:xnack+ $target-gfx801:xnack+ ${target/hip/hipv4}gfx801:xnack+
+gets 3 gfx801-xnack- $target-carrizo:xnack- $target-gfx801:xnack- ${target}gfx801:xnack-
+expect 0 'entry 1, *' '' pick "$alternative" $target-fiji
+expect 4 '' 'offload: *: 10 NONE, *' pick "$alternative" $target-gfx803
+expect 4 '' 'offload: *: 10 NONE, *' pick "$alternative" $target-polaris10
+expect 4 '' 'offload: *: 10 NONE, *' pick "$alternative" $target-carrizo:xnack-
+expect 0 "{\"file\":\"$alternative\",\"profile\":\"amdgpu\",\"number\":0,\"name\":\"OK\",\"device\":\"$target-polaris11\",\"index\":1,\"offset\":257,\"size\":2032}" '' \
+  pick "$alternative" $target-polaris11 --json "${by[@]}"
+# No image by the profile either: the message and explain speak of the profile.
+sentence='No entry fits this device: kind (hip and hipv4 are one), triple and processor (an alternative name means its primary) must be equal, and every '
+sentence+='feature that the entry states must be stated by the device with the same sign.'
+advice='offload explain FILE DEVICE --profile amdgpu says for each entry why it does not fit.'
+expect 4 '' "offload: $alternative: 10 NONE, device \"$target-tonga\": $sentence"$'\n'"  $advice" pick "$alternative" $target-tonga "${by[@]}"
+expect 4 "{\"file\":\"$alternative\",\"profile\":\"amdgpu\",\"number\":10,\"name\":\"NONE\",\"device\":\"$target-tonga\",\"sentence\":\"$sentence\",\"advice\":\"$advice\"}" '' \
+  pick "$alternative" $target-tonga "${by[@]}" --json
+expect 4 'INDEX  ID                                    REASON
+    2  hip-amdgcn-amd-amdhsa--gfx801:xnack+  feature: entry xnack+, device (not stated)
+    3  hip-amdgcn-amd-amdhsa--gfx801:xnack-  feature: entry xnack-, device (not stated)
+    1  hip-amdgcn-amd-amdhsa--gfx803         processor: entry gfx803, device gfx801
+    0  host-x86_64-unknown-linux-gnu-        kind: entry host, device hip' '' explain "$alternative" $target-carrizo "${by[@]}"
+expect 4 "INDEX *
+    2  hip-amdgcn-amd-amdhsa--carrizo:xnack+  feature: entry xnack+, device (not stated)
+    1  hip-amdgcn-amd-amdhsa--fiji            processor: entry fiji, device carrizo
+    3  hip-amdgcn-amd-amdhsa--gfx801:xnack-   processor: entry gfx801, device carrizo
+*" '' explain "$alternative" $target-carrizo
+# The normal form by the profile: accepted by both readings, and its own normal form by both.
+expect 0 'written, length 6370' '' normalise "$alternative" -o normal
+expect 0 'written, length 6371' '' normalise "$alternative" "${by[@]}" -o strict
+expect 0 "{\"file\":\"$alternative\",\"profile\":\"amdgpu\",\"number\":0,\"name\":\"OK\",\"length\":6371}" '' normalise "$alternative" "${by[@]}" --json -o strict
+expect 0 "$heading
+    0        259       2040  ${gfx}801:xnack+
+    1       2299       2040  ${gfx}801:xnack-
+    2       4339       2032  ${gfx}803
+    3       6371          0  host-x86_64-unknown-linux-gnu-" '' list strict
+for reading in '' --profile=amdgpu; do
+  # shellcheck disable=SC2086
+  expect 0 'written, length 6371' '' normalise strict $reading -o again
+  same again strict
+done
+expect 0 'written, length 6371' '' normalise normal "${by[@]}" -o again
+same again strict
+is 'cmp of the normal forms' "$(cmp -s normal strict; echo $?)" 1
+for name in gfx803 fiji polaris10; do
+  expect 0 'entry 2, offset 4339, size 2032' '' pick strict $target-$name "${by[@]}" -o out
+  same out "$samples/images/gfx803.o"
+done
+holds again normal out strict
+rm ./*
+
+# takes ID CANONICAL: the profile takes the ID, in an entry and in a device name, and this is its canonical form.
+takes() {
+  { bundle 5 "$1"; printf image; } >entry
+  expect 0 "{\"index\":0,*,\"id\":\"$2\"*}" '' list entry --json "${by[@]}"
+  expect 0 'entry 0, *' '' pick entry "$2" "${by[@]}"
+  { bundle 5 "$2"; printf image; } >entry
+  expect 0 'entry 0, *' '' pick entry "$1" "${by[@]}"
+}
+# denies ID KEY PART: the profile refuses the ID, in an entry and in a device name, and names the part, which JSON has under the key.
+denies() {
+  local text
+  case $2 in
+    processor) text='The profile amdgpu does not know the processor of the *.' ;;
+    feature) text='By the profile amdgpu the processor of the * does not support a feature that the * states.' ;;
+  esac
+  bundle 0 host-a-b-c "$1" >entry
+  expect 0 'accepted, entries 2' '' check entry
+  expect 1 '' "offload: entry: 5 ID, entry 1 \"$1\": $text It is \"$3\"."$'\n  *offload help profile*' check entry "${by[@]}"
+  bundle 0 host-a-b-c >entry
+  expect 4 '' 'offload: entry: 10 NONE, *' pick entry "$1"
+  expect 1 "$(object entry 9 QUERY "\"device\":\"$1\",\"$2\":\"$3\"," amdgpu)" '' pick entry "$1" --json "${by[@]}"
+}
+# Every name of the table, and what its row supports.
+count=0
+while IFS='|' read -r primary others sramecc xnack; do
+  for name in $primary ${others//,/ }; do
+    count=$((count + 1))
+    takes $target-"$name" $target-"$primary"
+    for mark in "sramecc $sramecc" "xnack $xnack"; do
+      feature=${mark% *}
+      case ${mark#* } in
+        1) takes $target-"$name:$feature-" $target-"$primary:$feature-" ;;
+        0) denies $target-"$name:$feature+" feature "$feature" ;;
+        *) fail "a mark of $primary" ;;
+      esac
+    done
+  done
+done < <(grep -v '^#' "$processors" | tr '\t' '|')
+is 'names of the table' $count 68
+takes ${target}gfx906:xnack+:sramecc- $target-gfx906:sramecc-:xnack+
+takes ${target}gfx10-1-generic:xnack+ $target-gfx10-1-generic:xnack+
+takes hip-amdgcn-amd-amdhsa-gnu-fiji hip-amdgcn-amd-amdhsa-gnu-gfx803
+takes hip-amdgcn-a.B-_9-x-stoney:xnack- hip-amdgcn-a.B-_9-x-gfx810:xnack-
+takes hipv4-amdgcn-amd-amdhsa--verde hipv4-amdgcn-amd-amdhsa--gfx601
+takes openmp-amdgcn-amd-amdhsa--oland openmp-amdgcn-amd-amdhsa--gfx602
+# Names that no row has.
+for name in gfx907 gfx9 gfx GFX906 gfx906x gfx90A gfx90 gfx9-4-generic gfx9-generic-x generic Fiji FIJI fiji0 fij polaris polaris12 polaris-10 gfx.906 sm_70 x 0; do
+  denies $target-$name processor $name
+done
+denies ${target}gfx9-4-generic processor gfx9-4-generic
+denies hipv4-amdgcn-amd-amdhsa-gnu-gfx907:xnack+ processor gfx907
+denies openmp-amdgcn-amd-amdhsa--gfx907:cumode-:xnack+ processor gfx907
+denies hip-amdgcn-x-y-fiji-gfx803-x processor gfx803-x
+# Features that a row does not support, and any other name. The first in byte order is named.
+denies $target-gfx906:cumode+ feature cumode
+denies ${target}gfx906:xnack+:tgsplit-:sramecc- feature tgsplit
+denies $target-gfx942:sramecc+:xnack-:z- feature z
+denies $target-gfx90a:xnack+:sramec+ feature sramec
+denies $target-gfx90a:xnac+:sramecc+ feature xnac
+denies $target-gfx90a:xnacks+ feature xnacks
+denies hipv4-amdgcn-amd-amdhsa--gfx900:xnack+:sramecc+ feature sramecc
+denies openmp-amdgcn-amd-amdhsa--gfx1030:xnack-:sramecc- feature sramecc
+denies $target-polaris10:xnack- feature xnack
+# All other IDs are read as without the profile: another kind or arch, or no processor. In the fifth field an alternative name is the environment.
+for id in host-amdgcn-amd-amdhsa--gfx907:cumode+ host-amdgcn-amd-amdhsa--fiji hip-amdgcn1-amd-amdhsa--gfx907:xnack+ hip-AMDGCN-amd-amdhsa--fiji:xnack+ \
+  openmp-amdgc-amd-amdhsa--fiji openmp-nvptx64-nvidia-cuda--sm_70:f+ hipv4-x86_64-a-b--fiji hip-amdgcn-amd-amdhsa-- hip-amdgcn-amd-amdhsa-fiji- \
+  hip-amdgcn-amd-amdhsa-gnu- hipv4-amdgcn-amd-amdhsa-polaris10- hip-a-amdgcn-b--gfx907; do
+  takes "$id" "$id"
+done
+takes ${target}fiji ${target}fiji-
+{ bundle 5 ${target}fiji; printf image; } >entry
+expect 4 '' 'offload: entry: 10 NONE, *' pick entry $target-gfx803 "${by[@]}"
+expect 4 '' 'offload: entry: 10 NONE, *' pick entry $target-fiji "${by[@]}"
+# What breaks the general rules is told as ever, by the profile too.
+general='is not written as an entry ID must be.'
+for id in hip-amdgcn gfx906 $target-gfx906:xnack $target-fiji- ${target}fiji:xnack+ $target-gfx907- $target-gfx906:xnack+:xnack-; do
+  bundle 0 "$id" >entry
+  expect 1 '' "offload: entry: 5 ID, entry 0 \"$id\": The ID of the entry $general"$'\n'"  Make the bundle again *: offload help id." check entry "${by[@]}"
+  expect 1 '' "offload: $cards: 9 QUERY, device \"$id\": The device name $general"$'\n'"  Write it like * (offload help id)." pick "$cards" "$id" "${by[@]}"
+done
+# The form with the primary has 256 bytes at most, and the text has, as ever: fiji is two bytes shorter than gfx803, polaris10 three longer.
+vendor=$(printf 'v%.0s' {1..240})
+# sized LENGTH NAME: an ID so long with this processor.
+sized() {
+  echo "hip-amdgcn-${vendor:0:$1-15-${#2}}-a--$2"
+}
+for pair in '254 fiji' '255 verde' '256 gfx803' '256 tahiti' '256 polaris10' '256 pitcairn'; do
+  # shellcheck disable=SC2086
+  id=$(sized $pair)
+  is 'the length' "${#id}" "${pair% *}"
+  bundle 0 "$id" >entry
+  expect 0 'accepted, entries 1' '' check entry "${by[@]}"
+  expect 0 'entry 0, *' '' pick entry "$id" "${by[@]}"
+  expect 0 'written, length *' '' normalise entry "${by[@]}" -o normal
+  expect 0 'entry 0, *' '' pick normal "$id" "${by[@]}"
+done
+for pair in '255 fiji' '256 fiji' '256 verde' '256 tonga'; do
+  # shellcheck disable=SC2086
+  id=$(sized $pair)
+  bundle 0 host-a-b-c "$id" >entry
+  expect 0 'accepted, entries 2' '' check entry
+  expect 1 '' "offload: entry: 5 ID, entry 1 \"$id\": With the primary name of its processor the ID of the entry has more than 256 bytes."$'\n  *.' \
+    check entry "${by[@]}"
+  bundle 0 host-a-b-c >entry
+  expect 1 '' "offload: entry: 9 QUERY, device \"$id\": With the primary name of its processor the device name has more than 256 bytes."$'\n  *.' \
+    pick entry "$id" "${by[@]}"
+done
+bundle 0 "$(sized 257 polaris10)" >entry
+expect 1 '' "$(refusal entry '4 TABLE' 'entry 0')" check entry "${by[@]}"
+expect 1 '' "$(refusal "$cards" '9 QUERY' 'device *')" pick "$cards" "$(sized 257 polaris10)" "${by[@]}"
+# Two names of one processor are one meaning.
+meaning='An earlier entry has the same meaning (hip and hipv4 are one kind, an alternative name means its primary).'
+names='An earlier entry of the same kind (hip and hipv4 are one), triple and processor (an alternative name means its primary) states other feature names.'
+for pair in 'fiji gfx803' 'gfx803 fiji' 'polaris10 polaris11' 'tonga iceland'; do
+  one=$target-${pair% *}
+  two=$target-${pair#* }
+  bundle 0 host-a-b-c "$one" "${two/hip/hipv4}" >twice
+  expect 0 'accepted, entries 3' '' check twice
+  text="offload: twice: 7 TWICE, entry 2 \"${two/hip/hipv4}\": $meaning It is entry 1 \"$one\"."$'\n  Make the bundle again with one of the two.'
+  expect 1 '' "$text" check twice "${by[@]}"
+  expect 1 '' "$text" list twice "${by[@]}"
+  expect 1 '' "$text" pick twice "$one" "${by[@]}"
+  expect 1 '' "$text" explain twice "$one" "${by[@]}"
+  expect 1 '' "$text" normalise twice "${by[@]}" -o new
+  expect 1 "$(object twice 7 TWICE "\"place\":2,\"id\":\"${two/hip/hipv4}\",\"earlier\":1,\"earlier_id\":\"$one\"," amdgpu)" '' check twice --json "${by[@]}"
+done
+bundle 0 $target-carrizo $target-fiji $target-gfx801:xnack+ >mixed
+expect 0 'accepted, entries 3' '' check mixed
+text="offload: mixed: 8 MIXED, entry 2 \"$target-gfx801:xnack+\": $names It is entry 0 \"$target-carrizo\"."$'\n  *.'
+expect 1 '' "$text" check mixed "${by[@]}"
+expect 1 '' "$text" normalise mixed "${by[@]}" -o new
+bundle 0 $target-carrizo:xnack+ $target-gfx801:xnack- openmp-amdgcn-amd-amdhsa--carrizo ${target}gnu-carrizo ${target}carrizo host-amdgcn-amd-amdhsa--carrizo >apart
+expect 0 'accepted, entries 6' '' check apart "${by[@]}"
+# Each number over all entries before the next, as without the profile; the lowest entry is named, and an output stays.
+bundle '0 0 9' $target-fiji $target-gfx803 $target-gfx907 $target-gfx908 >order
+expect 1 '' "$(refusal order '5 ID' "entry 2 \"$target-gfx907\"" 'It is "gfx907".')" check order "${by[@]}"
+expect 1 '' "$(refusal order '6 RANGE' "entry 2 \"$target-gfx907\" (*)")" check order
+bundle '0 0 9' $target-fiji $target-gfx803 $target-gfx908 >order
+expect 1 '' "$(refusal order '6 RANGE' "entry 2 \"$target-gfx908\" (*)")" pick order $target-gfx907 "${by[@]}"
+images '0+4 0+4 3+4' $target-fiji $target-gfx803 $target-gfx908 >order
+expect 1 '' "$(refusal order '21 OVERLAP' "entry 2 \"$target-gfx908\" (*)" "It is entry 0 \"$target-fiji\" (*).")" check order "${by[@]}"
+images '0+4 0+4' $target-fiji $target-gfx803 >order
+expect 1 '' "$(refusal order '7 TWICE' 'entry 1 *')" pick order gfx907 "${by[@]}"
+expect 1 '' "$(refusal '*/overlap.bundle' '21 OVERLAP' 'entry 1 *')" check "$samples/refused/overlap.bundle" "${by[@]}"
+expect 1 '' "$(refusal 'standard input' '2 MAGIC')" check - "${by[@]}" </dev/null
+bundle 0 $target-gfx907 >order
+printf kept >out
+cp out kept
+expect 1 '' "$(refusal order '5 ID' 'entry 0 *' 'It is "gfx907".')$left" normalise order "${by[@]}" -o out
+expect 1 '' "$(refusal "$cards" '9 QUERY' 'device *' 'It is "gfx907".')$left" pick "$cards" $target-gfx907 "${by[@]}" -o out
+expect 4 '' "$(refusal "$cards" '10 NONE' 'device *')$left" pick "$cards" $target-fiji "${by[@]}" -o out
+expect 1 "$(object order 5 ID "\"place\":0,\"id\":\"$target-gfx907\",\"processor\":\"gfx907\"," amdgpu)" '' list order --json "${by[@]}"
+same out kept
+bundle $((17 << 20)) "${ids[@]}" >big
+truncate -s $((18 << 20)) big
+expect 1 '' "$(refusal big '11 BIG')" normalise big "${by[@]}" -o new
+{ bundle 5 "${ids[@]}"; printf image; } >shared
+expect 0 "written, length $((32 + 64 * (24 + 12 + 2 + 5)))" '' normalise shared "${by[@]}" -o new
+expect 0 'accepted, entries 4' '' check - "${by[@]}" < <("$offload" normalise "$alternative" "${by[@]}" -o - 2>../piped)
+holds apart big entry kept mixed new normal order out shared twice
 rm ./*
 
 # Standard input and standard output.

@@ -12,6 +12,8 @@
 static struct json accepted(const struct request *request) {
     struct json object = json_open(request->answer);
     json_text(&object, "file", request->operands[0]);
+    if (request->reading->profile != NULL)
+        json_text(&object, "profile", request->reading->profile);
     json_number(&object, "number", OFFLOAD_OK);
     json_text(&object, "name", offload_name(OFFLOAD_OK));
     return object;
@@ -19,7 +21,7 @@ static struct json accepted(const struct request *request) {
 
 enum status check(const struct request *request) {
     struct bytes bundle = request->files[0];
-    struct offload_check_answer answer = offload_check(bundle.start, bundle.length);
+    struct offload_check_answer answer = request->reading->check(bundle.start, bundle.length);
     struct json object;
     if (answer.number != OFFLOAD_OK)
         return refuse(request, answer.number, answer.place);
@@ -49,7 +51,7 @@ static void tell_image(const struct request *request, const struct offload_pick_
 
 enum status pick(const struct request *request) {
     struct bytes bundle = request->files[0], device = text_bytes(request->operands[1]), image;
-    struct offload_pick_answer answer = offload_pick(bundle.start, bundle.length, device.start, device.length);
+    struct offload_pick_answer answer = request->reading->pick(bundle.start, bundle.length, device.start, device.length);
     const char *failure = NULL;
     if (answer.number != OFFLOAD_OK)
         return refuse(request, answer.number, answer.place);
@@ -64,12 +66,12 @@ enum status pick(const struct request *request) {
 }
 
 /* Makes the normal form of a bundle that lacks nothing but room, in memory of its own; null where there is not enough.
- * An ID grows by two dashes at most, so the first room is enough unless entries share one image; then it is doubled. */
-static uint8_t *normal_form(struct bytes bundle, size_t *length) {
+ * An ID grows by two bytes at most, so the first room is enough unless entries share one image; then it is doubled. */
+static uint8_t *normal_form(const struct reading *reading, struct bytes bundle, size_t *length) {
     size_t room = bundle.length + 2 * OFFLOAD_ENTRIES;
     for (;; room *= 2) {
         uint8_t *out = malloc(room);
-        *length = out == NULL ? 0 : (size_t)offload_normalise_length(bundle.start, bundle.length, out, room);
+        *length = out == NULL ? 0 : (size_t)reading->normalise(bundle.start, bundle.length, out, room).length;
         if (out == NULL || *length > 0)
             return out;
         free(out);
@@ -89,7 +91,7 @@ static void tell_length(const struct request *request, uint64_t length) {
 
 static enum status write_normal_form(const struct request *request) {
     size_t length;
-    uint8_t *normal = normal_form(request->files[0], &length);
+    uint8_t *normal = normal_form(request->reading, request->files[0], &length);
     struct bytes content = {normal, length};
     const char *failure = normal == NULL ? "Not enough memory" : file_write(request->output, content);
     free(normal);
@@ -102,6 +104,6 @@ static enum status write_normal_form(const struct request *request) {
 enum status normalise(const struct request *request) {
     struct bytes bundle = request->files[0];
     uint8_t none[1];
-    struct offload_normalise_answer answer = offload_normalise(bundle.start, bundle.length, none, 0);
+    struct offload_normalise_answer answer = request->reading->normalise(bundle.start, bundle.length, none, 0);
     return answer.number == OFFLOAD_ROOM ? write_normal_form(request) : refuse(request, answer.number, answer.place);
 }

@@ -3,6 +3,7 @@
 #define TOOL_COMMANDS_H
 
 #include "file.h"
+#include "reading.h"
 
 #include <stdio.h>
 
@@ -14,9 +15,10 @@ enum { OPERANDS = 2 }; /* the most that a command takes */
 struct request {
     const char *operands[OPERANDS];
     struct bytes files[OPERANDS];
-    const char *output; /* the path of the output, or null */
-    int json;           /* whether to answer in JSON */
-    FILE *answer;       /* standard output; standard error where the output goes to standard output */
+    const struct reading *reading; /* how IDs are read */
+    const char *output;            /* the path of the output, or null */
+    int json;                      /* whether to answer in JSON */
+    FILE *answer;                  /* standard output; standard error where the output goes to standard output */
 };
 
 enum output { NO_OUTPUT, MAY_HAVE_OUTPUT, NEEDS_OUTPUT };

@@ -1,21 +1,21 @@
 #include "entries.h"
 
-static struct entry read_entry(struct bytes bundle, size_t index) {
+static struct entry read_entry(const struct reading *reading, struct bytes bundle, size_t index) {
     struct offload_entry_answer answer = offload_entry(bundle.start, bundle.length, index);
     struct bytes spelled = {bundle.start + answer.id_position, (size_t)answer.id_length};
     struct entry entry;
     entry.offset = answer.position;
     entry.size = answer.size;
     entry.spelled = spelled;
-    canonical_form(spelled, &entry.id);
+    canonical_form(reading, spelled, &entry.id);
     return entry;
 }
 
-void read_entries(struct bytes bundle, struct entries *entries) {
+void read_entries(const struct reading *reading, struct bytes bundle, struct entries *entries) {
     size_t i;
     entries->count = (size_t)offload_check_count(bundle.start, bundle.length);
     for (i = 0; i < entries->count; i++)
-        entries->list[i] = read_entry(bundle, i);
+        entries->list[i] = read_entry(reading, bundle, i);
 }
 
 int longest_id(const struct entries *entries) {

@@ -18,7 +18,8 @@ struct entries {
     struct entry list[OFFLOAD_ENTRIES];
 };
 
-void read_entries(struct bytes bundle, struct entries *entries);
+/* Reads the entries of a bundle that this reading accepts, and so the general rules too. */
+void read_entries(const struct reading *reading, struct bytes bundle, struct entries *entries);
 
 /* The length of the longest canonical ID, for columns. */
 int longest_id(const struct entries *entries);

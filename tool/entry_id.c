@@ -19,7 +19,7 @@ static struct bytes bundle_of(struct bytes id, uint8_t *bundle) {
     return whole;
 }
 
-int canonical_form(struct bytes id, struct canonical *form) {
+int canonical_form(const struct reading *reading, struct bytes id, struct canonical *form) {
     uint8_t bundle[ROOM], normal[ROOM];
     struct bytes whole;
     uint64_t length;
@@ -27,7 +27,7 @@ int canonical_form(struct bytes id, struct canonical *form) {
     if (id.length == 0 || id.length > OFFLOAD_ID_LIMIT)
         return 0;
     whole = bundle_of(id, bundle);
-    length = offload_normalise_length(whole.start, whole.length, normal, sizeof normal);
+    length = reading->normalise(whole.start, whole.length, normal, sizeof normal).length;
     if (length == 0)
         return 0;
     form->length = (size_t)length - ID_AT;

@@ -3,7 +3,7 @@
 #define TOOL_ENTRY_ID_H
 
 #include "file.h"
-#include "offload.h"
+#include "reading.h"
 
 /* The canonical form of an ID, length bytes. */
 struct canonical {
@@ -12,7 +12,7 @@ struct canonical {
 };
 
 /* Makes the canonical form of an ID; 0, and the form is empty, where the ID breaks the rules. */
-int canonical_form(struct bytes id, struct canonical *form);
+int canonical_form(const struct reading *reading, struct bytes id, struct canonical *form);
 
 struct bytes canonical_bytes(const struct canonical *form);
 

@@ -125,9 +125,9 @@ static void explain_entries(const struct request *request, struct bytes device) 
     struct entries entries;
     struct reason reasons[OFFLOAD_ENTRIES];
     size_t i;
-    canonical_form(device, &name);
+    canonical_form(request->reading, device, &name);
     parts = parts_of(&name);
-    read_entries(request->files[0], &entries);
+    read_entries(request->reading, request->files[0], &entries);
     for (i = 0; i < entries.count; i++) {
         struct parts entry = parts_of(&entries.list[i].id);
         reasons[i] = reason_of(&entry, &parts);
@@ -137,7 +137,7 @@ static void explain_entries(const struct request *request, struct bytes device) 
 
 enum status explain(const struct request *request) {
     struct bytes bundle = request->files[0], device = text_bytes(request->operands[1]);
-    struct offload_pick_answer answer = offload_pick(bundle.start, bundle.length, device.start, device.length);
+    struct offload_pick_answer answer = request->reading->pick(bundle.start, bundle.length, device.start, device.length);
     if (answer.number != OFFLOAD_OK && answer.number != OFFLOAD_NONE)
         return refuse(request, answer.number, answer.place);
     explain_entries(request, device);

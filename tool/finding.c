@@ -1,25 +1,37 @@
 #include "finding.h"
 
+#include "text.h"
+
 #include <string.h>
 #include <unistd.h>
 
-static void find_earlier(struct bytes bundle, struct finding *finding) {
+static void find_earlier(const struct request *request, struct finding *finding) {
     uint64_t i;
     for (i = 0; i < finding->place && !finding->has_earlier; i++) {
         finding->earlier = i;
-        finding->has_earlier =
-            read_row(bundle, i, &finding->earlier_row) && finding->refusal.concerns(finding->earlier_row, finding->row);
+        finding->has_earlier = read_row(request->files[0], i, &finding->earlier_row) &&
+                               finding->refusal.concerns(request->reading, finding->earlier_row, finding->row);
     }
 }
 
-static void find_entry(struct bytes bundle, uint64_t place, struct finding *finding) {
+static void find_entry(const struct request *request, uint64_t place, struct finding *finding) {
     enum names names = finding->refusal.names;
     finding->has_place = names == NAMES_ENTRY || names == NAMES_ID || names == NAMES_IMAGE;
     finding->place = place;
     if (names == NAMES_ID || names == NAMES_IMAGE)
-        finding->has_row = read_row(bundle, place, &finding->row);
+        finding->has_row = read_row(request->files[0], place, &finding->row);
     if (finding->has_row && finding->refusal.concerns != NULL)
-        find_earlier(bundle, finding);
+        find_earlier(request, finding);
+}
+
+/* What the rules of IDs refuse may be against the profile alone. */
+static void find_fault(const struct request *request, struct finding *finding) {
+    if (finding->number == OFFLOAD_ID && finding->has_row)
+        finding->fault = fault_of(request->reading, finding->row.id);
+    if (finding->number == OFFLOAD_QUERY)
+        finding->fault = fault_of(request->reading, text_bytes(request->operands[1]));
+    if (finding->fault.kind != NO_FAULT)
+        finding->refusal = fault_refusal(finding->refusal.names, finding->fault.kind);
 }
 
 /* The output of a request, if it is a file that is there. */
@@ -30,12 +42,13 @@ static const char *kept_output(const char *output) {
 struct finding find_out(const struct request *request, uint64_t number, uint64_t place) {
     struct finding finding = {0};
     finding.number = number;
-    finding.refusal = refusal_of(number);
+    finding.refusal = refusal_of(request->reading, number);
     if (finding.refusal.advice == NULL) {
         finding.looks = looks_of(request->files[0]);
         finding.refusal.advice = finding.looks.advice;
     }
-    find_entry(request->files[0], place, &finding);
+    find_entry(request, place, &finding);
+    find_fault(request, &finding);
     finding.kept = kept_output(request->output);
     return finding;
 }

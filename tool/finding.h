@@ -20,6 +20,8 @@ struct finding {
     uint64_t earlier;
     struct row earlier_row;
 
+    struct fault fault; /* why a profile refuses the entry's ID, or the device name */
+
     const char *kept; /* an output that was there before and is left as it was, or null */
 };
 

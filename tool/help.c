@@ -5,7 +5,7 @@
 #include <stdio.h>
 #include <string.h>
 
-enum { SYNOPSIS = 26, NAME = 8 }; /* widths of columns */
+enum { SYNOPSIS = 26, NAME = 16 }; /* widths of columns */
 
 /* What the operands of commands are. */
 static const struct {
@@ -46,6 +46,25 @@ static const char id_help[] =
     "that the entry states is stated by the device with the same sign. hip and hipv4 are one kind, so that either fits the\n"
     "other, and a bundle with one entry in both spellings is refused; the canonical form keeps the kind as it is spelled.\n";
 
+static const char profile_help[] =
+    "The profile for AMD's GPUs, --profile " AMDGPU ": a stricter reading of IDs and device names beside the general one.\n"
+    "\n"
+    "It is for kind hip, hipv4 or openmp with arch amdgcn and a processor; all others are read as without it (offload help id).\n"
+    "The processor must be one of the names below, case included, and every feature that is stated one that it supports. If not,\n"
+    "an entry is refused by 5 ID, a device name by 9 QUERY. A name in parentheses is an alternative one and means the primary\n"
+    "before it, which the canonical form has: fiji means gfx803. Alternative names stand behind the environment, empty or not:\n"
+    "hip-amdgcn-amd-amdhsa--fiji. In hip-amdgcn-amd-amdhsa-fiji it is the environment, and there is no processor.\n"
+    "\n"
+    "  FEATURES        PROCESSORS (LLVM 19's AMDGPU user guide)\n"
+    "  sramecc, xnack  gfx906, gfx908, gfx90a, gfx940, gfx941, gfx942\n"
+    "  xnack           gfx801 (carrizo), gfx810 (stoney), gfx900, gfx902, gfx904, gfx909, gfx90c, gfx1010, gfx1011, gfx1012,\n"
+    "                  gfx1013, gfx9-generic, gfx10-1-generic\n"
+    "  none            gfx600 (tahiti), gfx601 (pitcairn, verde), gfx602 (hainan, oland), gfx700 (kaveri), gfx701 (hawaii),\n"
+    "                  gfx702, gfx703 (kabini, mullins), gfx704 (bonaire), gfx705, gfx802 (iceland, tonga),\n"
+    "                  gfx803 (fiji, polaris10, polaris11), gfx805 (tongapro), gfx1030, gfx1031, gfx1032, gfx1033, gfx1034,\n"
+    "                  gfx1035, gfx1036, gfx1100, gfx1101, gfx1102, gfx1103, gfx1150, gfx1151, gfx1152, gfx1200, gfx1201,\n"
+    "                  gfx10-3-generic, gfx11-generic, gfx12-generic\n";
+
 static void print_meaning(const char *name, const char *meaning) {
     printf("  %-*s  %s\n", NAME, name, meaning);
 }
@@ -80,6 +99,7 @@ static void print_row(const struct command *command) {
 static void print_options(int output) {
     if (output)
         print_meaning("-o OUT", output_help);
+    print_meaning("--profile " AMDGPU, "read IDs by the profile for AMD's GPUs: unknown processors and features are refused (offload help profile)");
     print_meaning("--json", "answer in JSON, one object a line");
     print_meaning("--", "no option stands after this word");
     fputs(statuses, stdout);
@@ -93,6 +113,7 @@ enum status help_all(void) {
         print_row(command);
     printf("  offload %-*s  %s\n", SYNOPSIS, "help [COMMAND]", "print this text, or more about a command");
     printf("  offload %-*s  %s\n", SYNOPSIS, "help id", "say how entry IDs and device names are written");
+    printf("  offload %-*s  %s\n", SYNOPSIS, "help profile", "say how the profile for AMD's GPUs reads some of them");
     printf("  offload %-*s  %s\n\n", SYNOPSIS, "--version", "print the version");
     for (i = 0; i < sizeof operands / sizeof *operands; i++)
         print_meaning(operands[i].name, operands[i].meaning);
@@ -104,7 +125,7 @@ enum status help_command(const struct command *command) {
     int i;
     fputs("offload ", stdout);
     print_synopsis(command);
-    printf(" [--json]\n\n%s\n", command->help);
+    printf(" [--profile " AMDGPU "] [--json]\n\n%s\n", command->help);
     for (i = 0; command->operands[i] != NULL; i++)
         print_operand(command->operands[i]);
     print_options(command->output != NO_OUTPUT);
@@ -113,6 +134,11 @@ enum status help_command(const struct command *command) {
 
 enum status help_id(void) {
     fputs(id_help, stdout);
+    return ACCEPTED;
+}
+
+enum status help_profile(void) {
+    fputs(profile_help, stdout);
     return ACCEPTED;
 }
 

@@ -13,6 +13,9 @@ enum status help_command(const struct command *command);
 /* How entry IDs and device names are written. */
 enum status help_id(void);
 
+/* How the profile reads some of them. */
+enum status help_profile(void);
+
 enum status help_version(void);
 
 #endif

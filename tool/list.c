@@ -48,11 +48,11 @@ static void put_entries(FILE *out, const struct entries *entries) {
 
 enum status list(const struct request *request) {
     struct bytes bundle = request->files[0];
-    struct offload_check_answer answer = offload_check(bundle.start, bundle.length);
+    struct offload_check_answer answer = request->reading->check(bundle.start, bundle.length);
     struct entries entries;
     if (answer.number != OFFLOAD_OK)
         return refuse(request, answer.number, answer.place);
-    read_entries(bundle, &entries);
+    read_entries(request->reading, bundle, &entries);
     (request->json ? put_entries : print_entries)(request->answer, &entries);
     return ACCEPTED;
 }

@@ -20,7 +20,7 @@ static enum status run(const struct command *command, struct request *request) {
 }
 
 static enum status answer_command(const struct command *command, char **words) {
-    struct request request = {0};
+    struct request request = {.reading = &general_reading};
     enum wish wish = read_words(command, words, &request);
     return wish == WISH_RUN ? run(command, &request) : wish == WISH_HELP ? help_command(command) : BAD_USAGE;
 }
@@ -33,6 +33,8 @@ static enum status answer_help(char **topics) {
         return bad_usage("", "unexpected word", topics[1]);
     if (strcmp(topics[0], "id") == 0)
         return help_id();
+    if (strcmp(topics[0], "profile") == 0)
+        return help_profile();
     return command != NULL ? help_command(command) : bad_usage("", "no help about", topics[0]);
 }
 

@@ -34,9 +34,19 @@ static void print_subject(const struct request *request, const struct finding *f
     }
 }
 
+static struct bytes fault_bytes(const struct finding *finding) {
+    struct bytes bytes = {finding->fault.bytes, finding->fault.length};
+    return bytes;
+}
+
 static void print_finding(const struct request *request, const struct finding *finding) {
     print_subject(request, finding);
     fprintf(stderr, ": %s", finding->refusal.sentence);
+    if (finding->fault.length > 0) {
+        fputs(" It is ", stderr);
+        print_quoted(stderr, fault_bytes(finding));
+        putc('.', stderr);
+    }
     if (finding->has_earlier) {
         fprintf(stderr, " It is entry %" PRIu64 " ", finding->earlier);
         print_quoted(stderr, finding->earlier_row.id);
@@ -70,6 +80,8 @@ static void put_row(struct json *object, const struct finding *finding) {
 static void put_finding(const struct request *request, const struct finding *finding) {
     struct json object = json_open(request->answer);
     json_text(&object, "file", request->operands[0]);
+    if (request->reading->profile != NULL)
+        json_text(&object, "profile", request->reading->profile);
     json_number(&object, "number", finding->number);
     json_text(&object, "name", offload_name(finding->number));
     if (finding->has_place)
@@ -78,6 +90,8 @@ static void put_finding(const struct request *request, const struct finding *fin
         put_row(&object, finding);
     if (finding->refusal.names == NAMES_DEVICE)
         json_text(&object, "device", request->operands[1]);
+    if (finding->fault.length > 0)
+        json_bytes(&object, finding->fault.kind == UNKNOWN_PROCESSOR ? "processor" : "feature", fault_bytes(finding));
     json_text(&object, "sentence", finding->refusal.sentence);
     if (finding->looks.like != NULL)
         json_text(&object, "looks_like", finding->looks.like);

@@ -11,28 +11,29 @@ struct pair {
 };
 
 /* Cuts the IDs of two rows; 0 where one of them breaks the rules, or where kind, triple or processor differ. */
-static int cut_both(struct row left, struct row right, struct pair *pair) {
-    if (!canonical_form(left.id, &pair->forms[0]) || !canonical_form(right.id, &pair->forms[1]))
+static int cut_both(const struct reading *reading, struct row left, struct row right, struct pair *pair) {
+    if (!canonical_form(reading, left.id, &pair->forms[0]) || !canonical_form(reading, right.id, &pair->forms[1]))
         return 0;
     pair->left = parts_of(&pair->forms[0]);
     pair->right = parts_of(&pair->forms[1]);
     return first_difference(&pair->left, &pair->right) == FIELDS;
 }
 
-static int same_meaning(struct row earlier, struct row row) {
+static int same_meaning(const struct reading *reading, struct row earlier, struct row row) {
     struct pair pair;
-    return cut_both(earlier, row, &pair) && same_bytes(pair.left.features, pair.right.features);
+    return cut_both(reading, earlier, row, &pair) && same_bytes(pair.left.features, pair.right.features);
 }
 
-static int other_names(struct row earlier, struct row row) {
+static int other_names(const struct reading *reading, struct row earlier, struct row row) {
     struct pair pair;
-    return cut_both(earlier, row, &pair) && !same_names(pair.left.features, pair.right.features);
+    return cut_both(reading, earlier, row, &pair) && !same_names(pair.left.features, pair.right.features);
 }
 
 /* No sum wraps: RANGE is tried first. */
-static int shares_bytes(struct row earlier, struct row row) {
+static int shares_bytes(const struct reading *reading, struct row earlier, struct row row) {
     int same_span = earlier.offset == row.offset && earlier.size == row.size;
     int apart = earlier.offset + earlier.size <= row.offset || row.offset + row.size <= earlier.offset;
+    (void)reading;
     return earlier.size > 0 && row.size > 0 && !same_span && !apart;
 }
 
@@ -63,8 +64,53 @@ static const struct refusal refusals[] = {
                      "A normal form holds an image for each entry, also where entries share one: use the bundle as it is.", NULL},
 };
 
-struct refusal refusal_of(uint64_t number) {
+/* What the profile says otherwise. */
+static const struct refusal profile_refusals[] = {
+    [OFFLOAD_TWICE] = {NAMES_ID,
+                       "An earlier entry has the same meaning (hip and hipv4 are one kind, an alternative name means its primary).",
+                       "Make the bundle again with one of the two.", same_meaning},
+    [OFFLOAD_MIXED] = {NAMES_ID,
+                       "An earlier entry of the same kind (hip and hipv4 are one), triple and processor (an alternative name means its primary) "
+                       "states other feature names.",
+                       "Make the bundle again so that all entries of a processor state the same features.", other_names},
+    [OFFLOAD_NONE] = {NAMES_DEVICE,
+                      "No entry fits this device: kind (hip and hipv4 are one), triple and processor (an alternative name means its primary) must be "
+                      "equal, and every feature that the entry states must be stated by the device with the same sign.",
+                      "offload explain FILE DEVICE --profile " AMDGPU " says for each entry why it does not fit.", NULL},
+};
+
+static const struct refusal entry_faults[] = {
+    [UNKNOWN_PROCESSOR] = {NAMES_ID, "The profile " AMDGPU " does not know the processor of the entry.",
+                           "Make the bundle again with a processor that it knows (offload help profile), or leave out --profile.", NULL},
+    [UNSUPPORTED_FEATURE] = {NAMES_ID, "By the profile " AMDGPU " the processor of the entry does not support a feature that the ID states.",
+                             "Make the bundle again without the feature (offload help profile), or leave out --profile.", NULL},
+    [LONG_FORM] = {NAMES_ID, "With the primary name of its processor the ID of the entry has more than 256 bytes.",
+                   "Make the bundle again with a shorter ID, or leave out --profile.", NULL},
+};
+
+static const struct refusal device_faults[] = {
+    [UNKNOWN_PROCESSOR] = {NAMES_DEVICE, "The profile " AMDGPU " does not know the processor of the device name.",
+                           "Write one that it knows (offload help profile), or leave out --profile.", NULL},
+    [UNSUPPORTED_FEATURE] = {NAMES_DEVICE,
+                             "By the profile " AMDGPU " the processor of the device name does not support a feature that the name states.",
+                             "Leave out the feature (offload help profile), or leave out --profile.", NULL},
+    [LONG_FORM] = {NAMES_DEVICE, "With the primary name of its processor the device name has more than 256 bytes.",
+                   "Write a shorter one, or leave out --profile.", NULL},
+};
+
+struct refusal fault_refusal(enum names names, enum fault_kind kind) {
+    return (names == NAMES_DEVICE ? device_faults : entry_faults)[kind];
+}
+
+/* The refusal of a number in a table, or this one where the table has none. */
+static struct refusal look_up(const struct refusal *table, size_t length, uint64_t number, struct refusal otherwise) {
+    return number < length && table[number].sentence != NULL ? table[number] : otherwise;
+}
+
+struct refusal refusal_of(const struct reading *reading, uint64_t number) {
     static const struct refusal unknown = {NAMES_FILE, "This tool does not know the number.", "Build the tool with the library that it calls.", NULL};
-    int known = number < sizeof refusals / sizeof *refusals && refusals[number].sentence != NULL;
-    return known ? refusals[number] : unknown;
+    struct refusal refusal = look_up(refusals, sizeof refusals / sizeof *refusals, number, unknown);
+    if (reading->profile == NULL)
+        return refusal;
+    return look_up(profile_refusals, sizeof profile_refusals / sizeof *profile_refusals, number, refusal);
 }

@@ -2,9 +2,8 @@
 #ifndef TOOL_REFUSAL_H
 #define TOOL_REFUSAL_H
 
+#include "fault.h"
 #include "table.h"
-
-#include <stdint.h>
 
 /* What a message names beside the file. */
 enum names { NAMES_FILE, NAMES_ENTRY, NAMES_ID, NAMES_IMAGE, NAMES_DEVICE };
@@ -15,9 +14,12 @@ struct refusal {
     const char *advice;   /* what to do; null where it depends on the file */
 
     /* Whether an earlier entry is the reason; null where none can be. */
-    int (*concerns)(struct row earlier, struct row row);
+    int (*concerns)(const struct reading *reading, struct row earlier, struct row row);
 };
 
-struct refusal refusal_of(uint64_t number);
+struct refusal refusal_of(const struct reading *reading, uint64_t number);
+
+/* What a fault of an entry's ID, or of a device name, means. */
+struct refusal fault_refusal(enum names names, enum fault_kind kind);
 
 #endif

@@ -21,15 +21,42 @@ static enum wish wrong(const struct command *command, const char *what, const ch
     return WISH_WRONG;
 }
 
+/* The profile that an option names: in the same word, behind =, or in the next one, to which it moves. Null where the option is another one, empty
+ * where the name is missing. */
+static const char *profile_name(char ***words) {
+    static const char option[] = "--profile";
+    const char *rest = strncmp(**words, option, sizeof option - 1) == 0 ? **words + sizeof option - 1 : NULL;
+    if (rest == NULL || (*rest != '=' && *rest != 0))
+        return NULL;
+    if (*rest == '=')
+        return rest + 1;
+    return *++*words == NULL ? "" : **words;
+}
+
+static enum wish take_profile(const struct command *command, const char *name, struct request *request) {
+    if (*name == 0)
+        return wrong(command, "no name after", "--profile");
+    if (request->reading != &general_reading)
+        return wrong(command, "a second", "--profile");
+    if (strcmp(name, AMDGPU) != 0)
+        return wrong(command, "the only profile is " AMDGPU ", not", name);
+    request->reading = &amdgpu_reading;
+    return WISH_RUN;
+}
+
 /* Takes the option that the words begin with, and moves to its last word. */
 static enum wish read_option(const struct command *command, char ***words, struct request *request) {
     char *option = **words;
+    const char *profile;
     if (is_help(option))
         return WISH_HELP;
     if (strcmp(option, "--json") == 0) {
         request->json = 1;
         return WISH_RUN;
     }
+    profile = profile_name(words);
+    if (profile != NULL)
+        return take_profile(command, profile, request);
     if (strcmp(option, "-o") != 0 || command->output == NO_OUTPUT)
         return wrong(command, "unknown option", option);
     if (request->output != NULL)

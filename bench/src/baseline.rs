@@ -2,7 +2,7 @@
 //! library's place.
 
 use crate::baseline_binaries;
-use second::calls::BundleCalls;
+use second::calls::{BundleCalls, ReadingCalls};
 use second::families::binaries::Binaries;
 use second::families::bundles::Bundles;
 use second::families::Family;
@@ -48,19 +48,37 @@ extern "C" {
     fn baseline_pick(bundle: *const u8, length: usize, device: *const u8, device_length: usize) -> CPicked;
     fn baseline_entry(bundle: *const u8, length: usize, index: u64) -> CLocated;
     fn baseline_normalise(bundle: *const u8, length: usize, out: *mut u8, room: usize) -> CWritten;
+    fn baseline_amdgpu_check(bundle: *const u8, length: usize) -> CChecked;
+    fn baseline_amdgpu_pick(bundle: *const u8, length: usize, device: *const u8, device_length: usize) -> CPicked;
+    fn baseline_amdgpu_normalise(bundle: *const u8, length: usize, out: *mut u8, room: usize) -> CWritten;
+}
+
+impl From<CChecked> for Checked {
+    fn from(CChecked { number, place, count }: CChecked) -> Checked {
+        Checked { number, place, count }
+    }
+}
+
+impl From<CPicked> for Picked {
+    fn from(CPicked { number, place, index, position, size }: CPicked) -> Picked {
+        Picked { number, place, index, position, size }
+    }
+}
+
+impl From<CWritten> for Written {
+    fn from(CWritten { number, place, length }: CWritten) -> Written {
+        Written { number, place, length }
+    }
 }
 
 pub fn check(bundle: &[u8]) -> Checked {
     // SAFETY: the slice is as long as it says.
-    let CChecked { number, place, count } = unsafe { baseline_check(bundle.as_ptr(), bundle.len()) };
-    Checked { number, place, count }
+    unsafe { baseline_check(bundle.as_ptr(), bundle.len()) }.into()
 }
 
 pub fn pick(bundle: &[u8], device: &[u8]) -> Picked {
     // SAFETY: the slices are as long as they say.
-    let picked = unsafe { baseline_pick(bundle.as_ptr(), bundle.len(), device.as_ptr(), device.len()) };
-    let CPicked { number, place, index, position, size } = picked;
-    Picked { number, place, index, position, size }
+    unsafe { baseline_pick(bundle.as_ptr(), bundle.len(), device.as_ptr(), device.len()) }.into()
 }
 
 pub fn entry(bundle: &[u8], index: u64) -> Located {
@@ -72,17 +90,42 @@ pub fn entry(bundle: &[u8], index: u64) -> Located {
 
 pub fn normalise(bundle: &[u8], out: &mut [u8]) -> Written {
     // SAFETY: the slices are as long as they say, and the output shares no byte with the bundle.
-    let written = unsafe { baseline_normalise(bundle.as_ptr(), bundle.len(), out.as_mut_ptr(), out.len()) };
-    let CWritten { number, place, length } = written;
-    Written { number, place, length }
+    unsafe { baseline_normalise(bundle.as_ptr(), bundle.len(), out.as_mut_ptr(), out.len()) }.into()
+}
+
+/// By the profile for AMD's GPUs.
+pub mod amdgpu {
+    use super::*;
+
+    pub fn check(bundle: &[u8]) -> Checked {
+        // SAFETY: the slice is as long as it says.
+        unsafe { baseline_amdgpu_check(bundle.as_ptr(), bundle.len()) }.into()
+    }
+
+    pub fn pick(bundle: &[u8], device: &[u8]) -> Picked {
+        // SAFETY: the slices are as long as they say.
+        unsafe { baseline_amdgpu_pick(bundle.as_ptr(), bundle.len(), device.as_ptr(), device.len()) }.into()
+    }
+
+    pub fn normalise(bundle: &[u8], out: &mut [u8]) -> Written {
+        // SAFETY: the slices are as long as they say, and the output shares no byte with the bundle.
+        unsafe { baseline_amdgpu_normalise(bundle.as_ptr(), bundle.len(), out.as_mut_ptr(), out.len()) }.into()
+    }
 }
 
 const CALLS: BundleCalls =
     BundleCalls { check, pick, entry, normalise: |bundle, out, field| field.of(normalise(bundle, out)) };
 
+const PROFILE: ReadingCalls = ReadingCalls {
+    check: amdgpu::check,
+    pick: amdgpu::pick,
+    normalise: |bundle, out, field| field.of(amdgpu::normalise(bundle, out)),
+};
+
 /// Compares the baseline with the second program on the samples and on generated containers; ends the program where it differs.
 pub fn compare(cases: u64) {
     compare_family(Box::new(Bundles::new(CALLS)), cases);
+    compare_family(Box::new(Bundles::profile(PROFILE)), cases);
     compare_family(Box::new(Binaries::new(baseline_binaries::next)), cases);
 }
 

@@ -5,6 +5,15 @@ extern "C" {
     fn offload_pick_number(bundle: *const u8, bundle_length: usize, device: *const u8, device_length: usize) -> u64;
     fn offload_entry_number(bundle: *const u8, bundle_length: usize, index: usize) -> u64;
     fn offload_normalise_length(bundle: *const u8, bundle_length: usize, out: *mut u8, out_length: usize) -> u64;
+    fn offload_amdgpu_check_number(bundle: *const u8, bundle_length: usize) -> u64;
+    fn offload_amdgpu_pick_number(
+        bundle: *const u8,
+        bundle_length: usize,
+        device: *const u8,
+        device_length: usize,
+    ) -> u64;
+    fn offload_amdgpu_normalise_length(bundle: *const u8, bundle_length: usize, out: *mut u8, out_length: usize)
+        -> u64;
     fn offload_comes_before(a: *const u8, a_length: usize, b: *const u8, b_length: usize) -> bool;
     fn offload_binaries_next_size(binaries: *const u8, length: usize, position: usize, taken: usize) -> u64;
 }
@@ -27,6 +36,26 @@ pub fn entry(bundle: &[u8], index: usize) -> u64 {
 pub fn normalise(bundle: &[u8], out: &mut [u8]) -> u64 {
     // SAFETY: the slices are as long as they say, and the output shares no byte with the bundle.
     unsafe { offload_normalise_length(bundle.as_ptr(), bundle.len(), out.as_mut_ptr(), out.len()) }
+}
+
+/// By the profile for AMD's GPUs.
+pub mod amdgpu {
+    use super::*;
+
+    pub fn check(bundle: &[u8]) -> u64 {
+        // SAFETY: the slice is as long as it says.
+        unsafe { offload_amdgpu_check_number(bundle.as_ptr(), bundle.len()) }
+    }
+
+    pub fn pick(bundle: &[u8], device: &[u8]) -> u64 {
+        // SAFETY: the slices are as long as they say.
+        unsafe { offload_amdgpu_pick_number(bundle.as_ptr(), bundle.len(), device.as_ptr(), device.len()) }
+    }
+
+    pub fn normalise(bundle: &[u8], out: &mut [u8]) -> u64 {
+        // SAFETY: the slices are as long as they say, and the output shares no byte with the bundle.
+        unsafe { offload_amdgpu_normalise_length(bundle.as_ptr(), bundle.len(), out.as_mut_ptr(), out.len()) }
+    }
 }
 
 pub fn comes_before(a: &[u8], b: &[u8]) -> bool {

@@ -1,5 +1,5 @@
-//! Times the library: `bench TOOL FOLDER`, with the tool to run and a folder for files, or `bench order`, the order of two IDs alone.
-//! Prints tables for docs/BENCHMARKS.md.
+//! Times the library: `bench TOOL FOLDER`, with the tool to run and a folder for files, or a part alone: `bench order`, the order of two IDs, or
+//! `bench profile`, the profile for AMD's GPUs. Prints tables for docs/BENCHMARKS.md.
 
 mod baseline;
 mod baseline_binaries;
@@ -9,6 +9,7 @@ mod clock;
 mod library;
 mod llvm;
 mod order;
+mod profile;
 mod sample;
 mod table;
 
@@ -18,9 +19,10 @@ fn main() {
     let words: Vec<String> = std::env::args().skip(1).collect();
     match words.iter().map(String::as_str).collect::<Vec<_>>().as_slice() {
         ["order"] => order::ids(),
+        ["profile"] => profile::jobs(),
         [tool, work] => all(tool, work),
         _ => {
-            eprintln!("bench TOOL FOLDER, or bench order");
+            eprintln!("bench TOOL FOLDER, bench order, or bench profile");
             exit(2)
         }
     }
@@ -32,6 +34,7 @@ fn all(tool: &str, work: &str) {
     baseline::compare(5000);
     bundles::jobs();
     bundles::growth();
+    profile::jobs();
     order::ids();
     bundles::copying();
     binaries::reading();

@@ -54,6 +54,59 @@ pub fn long_id(place: Option<usize>) -> Vec<u8> {
     id
 }
 
+/// IDs that the profile for AMD's GPUs accepts: the four settings of each processor that supports both features, as `hip` and as `openmp`, then
+/// the two of processors that support `xnack` alone.
+pub fn profile_id(entry: usize) -> String {
+    let (kind, processor, features) = if entry < 48 {
+        (["hip", "openmp"][entry / 24], PROCESSORS[entry / 4 % 6], features(entry))
+    } else {
+        ("hip", PROCESSORS[6 + (entry - 48) / 2], [":xnack+", ":xnack-"][entry % 2])
+    };
+    format!("{kind}-amdgcn-amd-amdhsa--{processor}{features}")
+}
+
+/// Processors whose rows stand late in the profile's table, which support neither feature, for `hip` and `openmp`, in two environments.
+pub fn late_row_id(entry: usize) -> String {
+    let (kind, environment) = (["hip", "openmp"][entry / 16 % 2], ["", "a"][entry / 32]);
+    format!("{kind}-amdgcn-amd-amdhsa-{environment}-{}", LATE[entry % 16])
+}
+
+/// The longest name of the profile's table, with both settings, in one environment after another.
+pub fn longest_name_id(entry: usize) -> String {
+    format!("hip-amdgcn-amd-amdhsa-e{:02}-gfx10-1-generic:xnack{}", entry / 2, ["+", "-"][entry % 2])
+}
+
+const LATE: [&str; 16] = [
+    "gfx1030", "gfx1031", "gfx1032", "gfx1033", "gfx1034", "gfx1035", "gfx1036", "gfx1100", "gfx1101", "gfx1102",
+    "gfx1103", "gfx1150", "gfx1151", "gfx1152", "gfx1200", "gfx1201",
+];
+
+const ALTERNATIVE: [&str; 12] = [
+    "tahiti", "pitcairn", "hainan", "kaveri", "hawaii", "kabini", "bonaire", "carrizo", "iceland", "fiji", "tongapro",
+    "stoney",
+];
+
+/// An alternative name of one processor after another, for `hip` and `openmp`, in one environment after another.
+pub fn alternative_name_id(entry: usize) -> String {
+    let (kind, environment) = (["hip", "openmp"][entry / 12 % 2], ["", "a", "b"][entry / 24]);
+    format!("{kind}-amdgcn-amd-amdhsa-{environment}-{}", ALTERNATIVE[entry % 12])
+}
+
+/// The IDs of `profile_id` with an arch that is none of the profile's.
+pub fn other_arch_id(entry: usize) -> String {
+    profile_id(entry).replace("amdgcn", "amdgpu")
+}
+
+/// The IDs of `profile_id`, with a processor at this entry that the profile does not know.
+pub fn unknown_at(unknown: usize) -> impl Fn(usize) -> String {
+    move |entry| if entry == unknown { "hip-amdgcn-amd-amdhsa--gfx907".to_string() } else { profile_id(entry) }
+}
+
+/// A bundle of so many entries with these IDs, each with an image of this size.
+pub fn bundle_of(id: impl Fn(usize) -> String, entries: usize, image: usize) -> Vec<u8> {
+    accepted((0..entries).map(id), image)
+}
+
 /// A bundle of so many entries, each with an image of this size.
 pub fn bundle(entries: usize, image: usize) -> Vec<u8> {
     accepted((0..entries).map(id), image)

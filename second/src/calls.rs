@@ -2,8 +2,9 @@
 
 use crate::model::binaries::{Binary, Cursor};
 use crate::model::binary_writer::Content;
-use crate::model::bundle::{Checked, Located, Picked};
+use crate::model::bundle::{check_of, entries, normalise_of, pick_of, Checked, Located, Picked};
 use crate::model::bundle_writer::Record;
+use crate::model::id::Reading::Profile;
 use crate::model::{binaries, binary_writer, bundle, bundle_writer, Written};
 
 /// A C call that writes returns one number of what it has to return. So it is called once for each, and writes each time.
@@ -24,12 +25,26 @@ impl Field {
     }
 }
 
+pub type Check = fn(&[u8]) -> Checked;
+pub type Pick = fn(&[u8], &[u8]) -> Picked;
+pub type EntryAt = fn(&[u8], u64) -> Located;
+pub type Normalise = fn(&[u8], &mut [u8], Field) -> u64;
+
+/// The calls of the general reading.
 #[derive(Clone, Copy)]
 pub struct BundleCalls {
-    pub check: fn(&[u8]) -> Checked,
-    pub pick: fn(&[u8], &[u8]) -> Picked,
-    pub entry: fn(&[u8], u64) -> Located,
-    pub normalise: fn(&[u8], &mut [u8], Field) -> u64,
+    pub check: Check,
+    pub pick: Pick,
+    pub entry: EntryAt,
+    pub normalise: Normalise,
+}
+
+/// The calls that each reading has: "its own check, pick and normalise".
+#[derive(Clone, Copy)]
+pub struct ReadingCalls {
+    pub check: Check,
+    pub pick: Pick,
+    pub normalise: Normalise,
 }
 
 pub type BundleWriter = fn(&[Record], &[u8], &[u8], &mut [u8], Field) -> u64;
@@ -42,6 +57,11 @@ pub const MODEL: BundleCalls = BundleCalls {
     pick: bundle::pick,
     entry: bundle::entry_at,
     normalise: |bundle, out, field| field.of(bundle::normalise(bundle, out)),
+};
+pub const MODEL_PROFILE: ReadingCalls = ReadingCalls {
+    check: |bundle| check_of(&entries(Profile, bundle)),
+    pick: |bundle, device| pick_of(Profile, &entries(Profile, bundle), device),
+    normalise: |bundle, out, field| field.of(normalise_of(&entries(Profile, bundle), out)),
 };
 pub const MODEL_BUNDLE_WRITER: BundleWriter =
     |records, ids, images, out, field| field.of(bundle_writer::write_bundle(records, ids, images, out));

@@ -1,7 +1,7 @@
 //! The library's calls: those of include/offload.h, and those of crate `harness`, which has the reader and the two writers. A slice is a
 //! pointer and a length.
 
-use second::calls::{BundleCalls, Field};
+use second::calls::{BundleCalls, Field, ReadingCalls};
 use second::model::binaries::{Binary, Cursor, Pair};
 use second::model::binary_writer::Content;
 use second::model::bundle::{Checked, Located, Picked};
@@ -26,6 +26,17 @@ extern "C" {
     fn offload_normalise_number(bundle: *const u8, length: usize, out: *mut u8, room: usize) -> u64;
     fn offload_normalise_place(bundle: *const u8, length: usize, out: *mut u8, room: usize) -> u64;
     fn offload_normalise_length(bundle: *const u8, length: usize, out: *mut u8, room: usize) -> u64;
+    fn offload_amdgpu_check_number(bundle: *const u8, length: usize) -> u64;
+    fn offload_amdgpu_check_place(bundle: *const u8, length: usize) -> u64;
+    fn offload_amdgpu_check_count(bundle: *const u8, length: usize) -> u64;
+    fn offload_amdgpu_pick_number(bundle: *const u8, length: usize, device: *const u8, device_length: usize) -> u64;
+    fn offload_amdgpu_pick_place(bundle: *const u8, length: usize, device: *const u8, device_length: usize) -> u64;
+    fn offload_amdgpu_pick_index(bundle: *const u8, length: usize, device: *const u8, device_length: usize) -> u64;
+    fn offload_amdgpu_pick_position(bundle: *const u8, length: usize, device: *const u8, device_length: usize) -> u64;
+    fn offload_amdgpu_pick_size(bundle: *const u8, length: usize, device: *const u8, device_length: usize) -> u64;
+    fn offload_amdgpu_normalise_number(bundle: *const u8, length: usize, out: *mut u8, room: usize) -> u64;
+    fn offload_amdgpu_normalise_place(bundle: *const u8, length: usize, out: *mut u8, room: usize) -> u64;
+    fn offload_amdgpu_normalise_length(bundle: *const u8, length: usize, out: *mut u8, room: usize) -> u64;
 }
 
 #[link(name = "harness", kind = "static")]
@@ -82,33 +93,59 @@ struct StringPair {
     text_len: u64,
 }
 
-pub const BUNDLES: BundleCalls = BundleCalls { check, pick, entry, normalise };
+type CheckNumber = unsafe extern "C" fn(*const u8, usize) -> u64;
+type PickNumber = unsafe extern "C" fn(*const u8, usize, *const u8, usize) -> u64;
+type NormaliseNumber = unsafe extern "C" fn(*const u8, usize, *mut u8, usize) -> u64;
 
-fn check(bundle: &[u8]) -> Checked {
-    let (start, length) = (bundle.as_ptr(), bundle.len());
-    // SAFETY: the slice is as long as it says.
-    unsafe {
-        Checked {
-            number: offload_check_number(start, length),
-            place: offload_check_place(start, length),
-            count: offload_check_count(start, length),
-        }
-    }
+/// The C calls of one reading, one for each number that is returned.
+struct Numbers {
+    check: [CheckNumber; 3],
+    pick: [PickNumber; 5],
+    normalise: [NormaliseNumber; 3],
 }
 
-fn pick(bundle: &[u8], device: &[u8]) -> Picked {
-    let (start, length) = (bundle.as_ptr(), bundle.len());
-    let (name, name_length) = (device.as_ptr(), device.len());
+const GENERAL: Numbers = Numbers {
+    check: [offload_check_number, offload_check_place, offload_check_count],
+    pick: [offload_pick_number, offload_pick_place, offload_pick_index, offload_pick_position, offload_pick_size],
+    normalise: [offload_normalise_number, offload_normalise_place, offload_normalise_length],
+};
+
+const AMDGPU: Numbers = Numbers {
+    check: [offload_amdgpu_check_number, offload_amdgpu_check_place, offload_amdgpu_check_count],
+    pick: [
+        offload_amdgpu_pick_number,
+        offload_amdgpu_pick_place,
+        offload_amdgpu_pick_index,
+        offload_amdgpu_pick_position,
+        offload_amdgpu_pick_size,
+    ],
+    normalise: [offload_amdgpu_normalise_number, offload_amdgpu_normalise_place, offload_amdgpu_normalise_length],
+};
+
+pub const BUNDLES: BundleCalls = BundleCalls {
+    check: |bundle| check(&GENERAL, bundle),
+    pick: |bundle, device| pick(&GENERAL, bundle, device),
+    entry,
+    normalise: |bundle, out, field| normalise(&GENERAL, bundle, out, field),
+};
+
+pub const PROFILE: ReadingCalls = ReadingCalls {
+    check: |bundle| check(&AMDGPU, bundle),
+    pick: |bundle, device| pick(&AMDGPU, bundle, device),
+    normalise: |bundle, out, field| normalise(&AMDGPU, bundle, out, field),
+};
+
+fn check(calls: &Numbers, bundle: &[u8]) -> Checked {
+    // SAFETY: the slice is as long as it says.
+    let [number, place, count] = calls.check.map(|call| unsafe { call(bundle.as_ptr(), bundle.len()) });
+    Checked { number, place, count }
+}
+
+fn pick(calls: &Numbers, bundle: &[u8], device: &[u8]) -> Picked {
     // SAFETY: the slices are as long as they say.
-    unsafe {
-        Picked {
-            number: offload_pick_number(start, length, name, name_length),
-            place: offload_pick_place(start, length, name, name_length),
-            index: offload_pick_index(start, length, name, name_length),
-            position: offload_pick_position(start, length, name, name_length),
-            size: offload_pick_size(start, length, name, name_length),
-        }
-    }
+    let number = |call: PickNumber| unsafe { call(bundle.as_ptr(), bundle.len(), device.as_ptr(), device.len()) };
+    let [number, place, index, position, size] = calls.pick.map(number);
+    Picked { number, place, index, position, size }
 }
 
 fn entry(bundle: &[u8], index: u64) -> Located {
@@ -126,12 +163,8 @@ fn entry(bundle: &[u8], index: u64) -> Located {
     }
 }
 
-fn normalise(bundle: &[u8], out: &mut [u8], field: Field) -> u64 {
-    let call = match field {
-        Field::Number => offload_normalise_number,
-        Field::Place => offload_normalise_place,
-        Field::Length => offload_normalise_length,
-    };
+fn normalise(calls: &Numbers, bundle: &[u8], out: &mut [u8], field: Field) -> u64 {
+    let call = calls.normalise[field as usize];
     // SAFETY: the slices are as long as they say, and the output shares no byte with the bundle.
     unsafe { call(bundle.as_ptr(), bundle.len(), out.as_mut_ptr(), out.len()) }
 }

@@ -49,6 +49,7 @@ fn families() -> Vec<Box<dyn Family>> {
         Box::new(Writers::<records::Case>::new(linked::write_bundle)),
         Box::new(Binaries::new(linked::next)),
         Box::new(Writers::<binary_contents::Case>::new(linked::write_binary)),
+        Box::new(Bundles::profile(linked::PROFILE)),
     ]
 }
 

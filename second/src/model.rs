@@ -8,6 +8,7 @@ pub mod bundle_writer;
 #[cfg(test)]
 mod examples;
 pub mod id;
+pub mod processors;
 #[cfg(test)]
 mod properties;
 

@@ -151,6 +151,17 @@ pub const BUNDLES: &[BundleSample] = &[
             ("hip-amdgcn-amd-amdhsa--gfx10-3-generic", sample!("images/gfx10-3-generic.o")),
         ],
     },
+    BundleSample {
+        name: "alternative",
+        bytes: sample!("bundles/alternative.bundle"),
+        as_written: false,
+        entries: &[
+            (HOST, b""),
+            ("hip-amdgcn-amd-amdhsa--fiji", sample!("images/gfx803.o")),
+            ("hip-amdgcn-amd-amdhsa--carrizo:xnack+", sample!("images/gfx801-xnack+.o")),
+            ("hip-amdgcn-amd-amdhsa--gfx801:xnack-", sample!("images/gfx801-xnack-.o")),
+        ],
+    },
 ];
 
 pub const REFUSED: &[RefusedSample] =
@@ -189,6 +200,10 @@ pub const DEVICES: &[&str] = &[
     "hip-amdgcn-amd-amdhsa--gfx906:xnack",
     "gfx906",
     "",
+    "hip-amdgcn-amd-amdhsa--fiji",
+    "hip-amdgcn-amd-amdhsa-gfx803",
+    "hip-amdgcn-amd-amdhsa--carrizo:xnack-",
+    "hip-amdgcn-amd-amdhsa-gfx801:xnack+",
 ];
 
 pub const BINARIES: &[BinariesSample] = &[
@@ -291,8 +306,8 @@ mod tests {
     use super::*;
     use crate::gen::ids::{kind_respelled, meaning_of};
     use crate::model::binaries::read_all;
-    use crate::model::bundle::{check, entry_at, pick, Checked};
-    use crate::model::id::{canonical, meaning};
+    use crate::model::bundle::{check, check_of, entries, entry_at, pick, pick_of, Checked};
+    use crate::model::id::{canonical, meaning, Reading};
     use crate::model::{END, NONE, QUERY};
     use std::collections::BTreeSet;
 
@@ -321,6 +336,37 @@ mod tests {
                 let other = canonical(&kind_respelled(&meaning_of(id.as_bytes())));
                 assert_eq!(pick(sample.bytes, &other), pick(sample.bytes, id.as_bytes()), "{}: {id}", sample.name);
             }
+        }
+    }
+
+    #[test]
+    fn bundles_are_those_of_our_own_cards() {
+        for sample in BUNDLES {
+            let [general, profile] = [Reading::General, Reading::Profile].map(|reading| entries(reading, sample.bytes));
+            assert_eq!(check_of(&profile), check_of(&general), "{}", sample.name);
+            for (id, _) in sample.entries {
+                let picked = pick_of(Reading::Profile, &profile, id.as_bytes());
+                assert_eq!(picked, pick(sample.bytes, id.as_bytes()), "{}: {id}", sample.name);
+            }
+        }
+    }
+
+    #[test]
+    fn an_alternative_name_is_its_primary_by_the_profile_alone() {
+        let sample = BUNDLES.iter().find(|sample| sample.name == "alternative").unwrap();
+        let answer = |reading, device: &str| {
+            let picked = pick_of(reading, &entries(reading, sample.bytes), device.as_bytes());
+            (picked.number, picked.index)
+        };
+        for (device, index) in
+            [("gfx803", 1), ("-fiji", 1), ("-polaris11", 1), ("gfx801:xnack+", 2), ("-carrizo:xnack-", 3)]
+        {
+            let device = format!("hip-amdgcn-amd-amdhsa-{device}");
+            assert_eq!(answer(Reading::Profile, &device), (OK, index), "{device}");
+        }
+        for device in ["gfx803", "-polaris11", "gfx801:xnack+", "-carrizo:xnack-"] {
+            let device = format!("hip-amdgcn-amd-amdhsa-{device}");
+            assert_eq!(answer(Reading::General, &device), (NONE, 0), "{device}");
         }
     }
 

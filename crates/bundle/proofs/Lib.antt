@@ -16,3 +16,4 @@ pub mod WriterLaws
 pub mod Demand
 pub mod Demand2
 pub mod EitherSpelling
+pub mod Stricter

@@ -1,5 +1,5 @@
--- Demand 3: normal forms are the same bytes exactly where bundles hold the same entries, and they are kept by the check, the pick and a second
--- normalising. Statements only; `proofs/Demand` proves `Demand3`.
+-- Demand 3, of any reading of entry IDs: normal forms are the same bytes exactly where bundles hold the same entries, and they are kept by the check,
+-- the pick and a second normalising. Statements only; `proofs/Demand` proves `Demand3`.
 use Prim.Native.Nat.{ℕ, _<_, _≤_}
 use mathlib.Core.Path.{_≡_}
 use mathlib.Core.Logic.{_↔_}
@@ -7,8 +7,7 @@ use mathlib.Core.List.{List, map, List·Memᴰ}
 use lib.ListN.{length, take, drop}
 use Rattle.wire.specs.Limit.{limit}
 use Rattle.entry_id.specs.IdRules.{IdRules}
-use Rattle.entry_id.specs.Meaning.{Feature, piecesOf, feature, meaning}
-use Rattle.entry_id.specs.Rules.{idRules}
+use Rattle.entry_id.specs.Meaning.{Feature, Meaning, piecesOf, feature}
 use Rattle.bundle.specs.Table.{count, row}
 use Rattle.bundle.specs.Check.{check}
 use Rattle.bundle.specs.Entry.{imageOf}
@@ -21,26 +20,28 @@ use Rattle.bundle.specs.Normal.{over, normal, normalise, normalised}
 unfoldable pub States : List ℕ → Feature → Type 0
 States x f = List·Memᴰ f (map feature (piecesOf x))
 
--- of two IDs: "the same kind as spelled, triple, processor, stated features and signs"
-pub record SameId (x y : List ℕ) : Type 0 where
-  pub kind : meaning x .kind ≡ meaning y .kind
-  pub arch : meaning x .arch ≡ meaning y .arch
-  pub vendor : meaning x .vendor ≡ meaning y .vendor
-  pub system : meaning x .system ≡ meaning y .system
-  pub environment : meaning x .environment ≡ meaning y .environment
-  pub processor : meaning x .processor ≡ meaning y .processor
-  pub features : (f : Feature) → States x f ↔ States y f
+-- by what texts mean
+module _ (mean : List ℕ → Meaning) where
+  -- of two IDs: "the same kind as spelled, triple, processor, stated features and signs"
+  pub record SameId (x y : List ℕ) : Type 0 where
+    pub kind : mean x .kind ≡ mean y .kind
+    pub arch : mean x .arch ≡ mean y .arch
+    pub vendor : mean x .vendor ≡ mean y .vendor
+    pub system : mean x .system ≡ mean y .system
+    pub environment : mean x .environment ≡ mean y .environment
+    pub processor : mean x .processor ≡ mean y .processor
+    pub features : (f : Feature) → States x f ↔ States y f
 
--- of entry i of a and entry j of b: that, "and an image of the same size and bytes"
-pub record SameEntry (a : List ℕ) (i : ℕ) (b : List ℕ) (j : ℕ) : Type 0 where
-  pub id : SameId (row a i .id) (row b j .id)
-  pub size : row a i .size ≡ row b j .size
-  pub image : imageOf a (row a i) ≡ imageOf b (row b j)
+  -- of entry i of a and entry j of b: that, "and an image of the same size and bytes"
+  pub record SameEntry (a : List ℕ) (i : ℕ) (b : List ℕ) (j : ℕ) : Type 0 where
+    pub id : SameId (row a i .id) (row b j .id)
+    pub size : row a i .size ≡ row b j .size
+    pub image : imageOf a (row a i) ≡ imageOf b (row b j)
 
--- "Two bundles hold the same entries when each entry of either has one in the other with .."
-pub record SameEntries (a b : List ℕ) : Type 0 where
-  pub left : (i : ℕ) → i < count a → (j : ℕ) × (j < count b) × SameEntry a i b j
-  pub right : (j : ℕ) → j < count b → (i : ℕ) × (i < count a) × SameEntry a i b j
+  -- "Two bundles hold the same entries when each entry of either has one in the other with .."
+  pub record SameEntries (a b : List ℕ) : Type 0 where
+    pub left : (i : ℕ) → i < count a → (j : ℕ) × (j < count b) × SameEntry a i b j
+    pub right : (j : ℕ) → j < count b → (i : ℕ) × (i < count a) × SameEntry a i b j
 
 -- ---- what a normal form keeps, for every `IdRules`
 
@@ -72,10 +73,10 @@ module _ (R : IdRules) where
     -- a pick from it gives what a pick from s gives
     pub picked : SamePick s (normal R s) device
 
--- ---- the demand, of the project's own rules of entry IDs
+-- ---- the demand, of the rules R and what texts mean by them
 
-pub record Demand3 : Type 0 where
+pub record Demand3 (R : IdRules) (mean : List ℕ → Meaning) : Type 0 where
   -- of any two accepted bundles, also where a normal form is above the limit
-  pub same-bytes : (a b : List ℕ) → check idRules a .number ≡ 0 → check idRules b .number ≡ 0 → (normal idRules a ≡ normal idRules b) ↔ SameEntries a b
+  pub same-bytes : (a b : List ℕ) → check R a .number ≡ 0 → check R b .number ≡ 0 → (normal R a ≡ normal R b) ↔ SameEntries mean a b
   -- "within the size limit", and any bytes as a device name
-  pub kept : (s device : List ℕ) → check idRules s .number ≡ 0 → length (normal idRules s) ≤ limit → Kept idRules s device
+  pub kept : (s device : List ℕ) → check R s .number ≡ 0 → length (normal R s) ≤ limit → Kept R s device

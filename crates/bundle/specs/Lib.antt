@@ -12,3 +12,4 @@ pub mod Writer
 pub mod Demand
 pub mod Demand2
 pub mod EitherSpelling
+pub mod Stricter

@@ -1,22 +1,25 @@
 -- The pick from a bundle that was checked. Assumes nothing.
 use Prim.Native.Nat.{ℕ, zero, suc, _≤_, _<_}
 use native.Mathlib.Omega.{arith}
-use mathlib.Core.Path.{_≡_, refl, sym, ap, ap₂, _∙_}
-use mathlib.Core.Bool.{true}
+use mathlib.Core.Path.{_≡_, refl, sym, ap, ap₂, _∙_, subst}
+use mathlib.Core.Bool.{true, false}
 use mathlib.Core.List.{List}
+use lib.Dec.{ltb}
+use borrow.Author.Tests.{ltb-true, ltb-false}
 use Rattle.wire.specs.Bytes.{empty}
 use Rattle.wire.specs.First.{first}
 use Rattle.wire.specs.Stop.{Stop, stop}
+use Rattle.wire.proofs.Bools.{byBool}
 use Rattle.wire.proofs.FirstLaws.{first-same, first-at, first-before}
 use Rattle.entry_id.specs.IdRules.{IdRules, Lawful}
 use Rattle.bundle.specs.Table.{count, rowStart, row}
 use Rattle.bundle.specs.Check.{bundleStop, check}
 use Rattle.bundle.specs.Pick.{compatibleAt, pick}
-use Rattle.bundle.specs.Accepted.{RowFits, Accepted}
+use Rattle.bundle.specs.Accepted.{Accepted}
 use Rattle.bundle.specs.Theorems.{refusal, Asked}
 use Rattle.bundle.specs.Records.{rowOf}
 use Rattle.bundle_reader.specs.Examined.{heldRow, text, formsOf}
-use Rattle.bundle_reader.specs.Slots.{Room, Formed, Canonical, Pickable, Known}
+use Rattle.bundle_reader.specs.Slots.{Room, Formed, Pickable, Known, Chosen}
 use Rattle.bundle.specs.declared.Checked.{Checked}
 use Rattle.bundle.specs.declared.EntryRecord.{EntryRecord}
 use Rattle.bundle.specs.declared.Picked.{Picked}
@@ -65,27 +68,40 @@ module _ (R : IdRules) (s device : List ℕ) where
   pub picked-query : Accepted R s → empty (R .canon device) ≡ true → refusal 9 0 ≡ pick R s device
   picked-query a q = sym (pick-query R s device a q)
 
-module _ (R : IdRules) (L : Lawful R) (s texts lens keys : List ℕ) (n : ℕ) (p : Pickable R s texts lens keys n) where
-  pub row-fits : (i : ℕ) → i < n → (k : ℕ) → k ≤ i → RowFits s (rowStart s k)
-  row-fits i h k l = p .sound .frame .rows k (omega (arith, p .count-is))
+-- entry i is the first of n that has a property, or n
+module _ (s : List ℕ) (n i j : ℕ) (q : i ≡ j) where
+  pub chosen-none : n ≤ i → (r : Picked) → r ≡ refusal 10 0 → Chosen s n j r
+  chosen-none h r e = record { none = λ l. e; image = λ l. absurd (omega arith) }
 
-  module _ (name : List ℕ) (m : Canonical R name) (i : ℕ) (q : i ≡ first n (λ k. R .compatible (text texts lens k) name)) (device : List ℕ) (e : name ≡ R .canon device) where
-    asked : Asked R s device
-    asked = record { bundle = p .sound; name = ap empty (sym e) ∙ m .some }
+  pub chosen-image : i < n → (r : EntryRecord) → r ≡ heldRow s (rowStart s i)
+      → Chosen s n j (record { number = 0; place = 0; index = i; position = r .«image_start»; size = r .«image_len» })
+  unfolding rowOf
+  chosen-image h r w = record {
+    none = λ l. absurd (omega arith);
+    image = λ l. ap (λ z. record { number = 0; place = 0; index = i; position = z .offset; size = z .size }) (row-is s i _ refl r w)
+        ∙ ap (λ k. record { number = 0; place = 0; index = k; position = row s k .offset; size = row s k .size }) q;
+  }
 
-    i-is : i ≡ first n (compatibleAt R s device)
-    unfolding compatibleAt
-    i-is = q ∙ first-same n _ _ (λ k h. ap₂ (R .compatible) (p .held k h .text-is) e)
+module _ (R : IdRules) (L : Lawful R) (s texts lens keys : List ℕ) (n : ℕ) (p : Pickable R s texts lens keys n) (name : List ℕ) (some : empty name ≡ false) (device : List ℕ) (e : name ≡ R .canon device) where
+  asked : Asked R s device
+  asked = record { bundle = p .sound; name = ap empty (sym e) ∙ some }
 
-    pub picked-none : n ≤ i → refusal 10 0 ≡ pick R s device
-    picked-none h =
-        sym (pick-none R s device asked
-        (λ k l. first-before n (compatibleAt R s device) k (omega (arith, i-is, p .count-is))))
+  i-is : first n (λ k. R .compatible (text texts lens k) name) ≡ first n (compatibleAt R s device)
+  unfolding compatibleAt
+  i-is = first-same n _ _ (λ k h. ap₂ (R .compatible) (p .held k h .text-is) e)
 
-    pub picked-image : i < n → (r : EntryRecord) → r ≡ heldRow s (rowStart s i)
-        → _≡_ {A = Picked} (record { number = 0; place = 0; index = i; position = r .«image_start»; size = r .«image_len» }) (pick R s device)
-    unfolding rowOf
-    picked-image h r w =
-        let f : compatibleAt R s device i ≡ true = ap (compatibleAt R s device) i-is ∙ first-at n (compatibleAt R s device) (omega (arith, i-is)) in
-        ap (λ q. record { number = 0; place = 0; index = i; position = q .offset; size = q .size }) (row-is s i _ refl r w)
-        ∙ sym (pick-found R L s device asked i (omega (arith, p .count-is)) f)
+  picked-none : n ≤ first n (compatibleAt R s device) → refusal 10 0 ≡ pick R s device
+  picked-none h =
+      sym (pick-none R s device asked
+      (λ k l. first-before n (compatibleAt R s device) k (omega (arith, p .count-is))))
+
+  -- that of the first compatible entry
+  pub chosen-is : (r : Picked) → Chosen s n (first n (λ k. R .compatible (text texts lens k) name)) r → r ≡ pick R s device
+  chosen-is r c =
+      let i = first n (compatibleAt R s device) in
+      let d : Chosen s n i r = subst (λ k. Chosen s n k r) i-is c in
+      byBool (ltb i n)
+      (λ t.
+      let h : i < n = ltb-true i n t in
+      d .image h ∙ sym (pick-found R L s device asked i (omega (arith, p .count-is)) (first-at n (compatibleAt R s device) h)))
+      (λ f. let h : n ≤ i = ltb-false i n f in d .none h ∙ picked-none h)

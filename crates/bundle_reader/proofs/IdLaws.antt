@@ -1,7 +1,7 @@
--- The functions of `canonical_form` on what the code holds: room of 256 bytes, and canonical forms. Assumes nothing.
+-- The functions of `canonical_form` and `profile_form` on what the code holds: room of 256 bytes, and canonical forms. Assumes nothing.
 use Prim.Native.Nat.{ℕ, _+_, _*_, _-_, _<_, _≤_}
 use native.Mathlib.Omega.{arith}
-use mathlib.Core.Path.{_≡_, refl, sym, ap, ap₂, _∙_}
+use mathlib.Core.Path.{_≡_, refl, sym, ap, ap₂, _∙_, subst}
 use mathlib.Core.List.{List, _++_}
 use lib.Dec.{eqb}
 use lib.ListN.{length, getD, take, drop, length-drop}
@@ -15,35 +15,37 @@ use Rattle.entry_id.proofs.KeyLaws.{key-same, key-mixed, key-compatible}
 use Rattle.canonical_form.specs.Made.{formOf}
 use Rattle.canonical_form.specs.declared.Form.{Form}
 use Rattle.bundle_reader.specs.Examined.{text}
+use Rattle.wire.proofs.ByteLaws.{length-empty, length-some}
 use Rattle.wire.specs.Bytes.{empty, overwrite}
-use Rattle.entry_id.specs.Canonical.{headKey, canonicalIn, sameText, mixedText, compatibleText}
-use Rattle.entry_id.specs.Rules.{idRules}
-use Rattle.entry_id.proofs.RuleLaws.{idRules-lawful, canonical-whole, same-rules, mixed-rules, compatible-rules}
+use Rattle.entry_id.specs.Canonical.{headKey, sameText, mixedText, compatibleText}
+use Rattle.entry_id.specs.Rules.{idRules, rulesOf, formIn}
+use Rattle.entry_id.specs.declared.Reading.{Reading}
+use Rattle.entry_id.proofs.RuleLaws.{rules-lawful, form-whole, canonOf-general, same-rules, mixed-rules, compatible-rules}
 use Rattle.bundle_reader.specs.Slots.{Canonical, Texts, near, relation}
-use Rattle.bundle_reader.proofs.SlotLaws.{length-empty, length-some, slot-written, more-here, first-more}
+use Rattle.bundle_reader.proofs.SlotLaws.{slot-written, more-here, first-more}
 
--- what `canonical` leaves of an ID x in the room that it was lent
-pub record Made (x before after : List ℕ) (made : Form) : Type 0 where
-  pub form-is : made ≡ formOf (canonicalIn (length before) x)
-  pub text : after ≡ canonicalIn (length before) x ++ drop (made .length) before
+-- what `canonical_by` leaves of an ID x in the room that it was lent
+pub record Made (reading : Reading) (x before after : List ℕ) (made : Form) : Type 0 where
+  pub form-is : made ≡ formOf (formIn reading (length before) x)
+  pub text : after ≡ formIn reading (length before) x ++ drop (made .length) before
 
-module _ (x before after : List ℕ) (made : Form) (room : length before ≡ 256) (m : Made x before after made) where
+module _ (reading : Reading) (x before after : List ℕ) (made : Form) (room : length before ≡ 256) (m : Made reading x before after made) where
   abbrev n : ℕ
   n = made .length
 
-  pub made-form : made ≡ formOf (idRules .canon x)
-  made-form = m .form-is ∙ ap formOf (canonical-whole (length before) x (omega arith))
+  pub made-form : made ≡ formOf (rulesOf reading .canon x)
+  made-form = m .form-is ∙ ap formOf (form-whole reading (length before) x (omega arith))
 
-  made-size : n ≡ length (idRules .canon x)
+  made-size : n ≡ length (rulesOf reading .canon x)
   unfolding formOf
   made-size = ap (λ (z : Form). z .length) made-form
 
-  pub made-text : after ≡ idRules .canon x ++ drop (length (idRules .canon x)) before
-  made-text = m .text ∙ ap₂ (λ z k. z ++ drop k before) (canonical-whole (length before) x (omega arith)) made-size
+  pub made-text : after ≡ rulesOf reading .canon x ++ drop (length (rulesOf reading .canon x)) before
+  made-text = m .text ∙ ap₂ (λ z k. z ++ drop k before) (form-whole reading (length before) x (omega arith)) made-size
 
   -- the canonical form, at the start of the room
-  pub name-is : take n after ≡ idRules .canon x
-  name-is = ap₂ take made-size made-text ∙ take-at (idRules .canon x) _ _ refl
+  pub name-is : take n after ≡ rulesOf reading .canon x
+  name-is = ap₂ take made-size made-text ∙ take-at (rulesOf reading .canon x) _ _ refl
 
   pub name-key : made .key ≡ headKey (take n after)
   unfolding formOf
@@ -51,34 +53,45 @@ module _ (x before after : List ℕ) (made : Form) (room : length before ≡ 256
 
   module _ (kept : length after ≡ length before) where
     pub name-fits : n ≤ length after
-    name-fits = omega (arith, made-size, idRules-lawful .canon-short x)
+    name-fits = omega (arith, made-size, rules-lawful reading .canon-short x)
 
     pub name-length : length (take n after) ≡ n
     name-length = length-take-le n after name-fits
 
-  pub name-none : n ≡ 0 → empty (idRules .canon x) ≡ true
-  name-none z = length-empty (idRules .canon x) (sym made-size ∙ z)
+  pub name-none : n ≡ 0 → empty (rulesOf reading .canon x) ≡ true
+  name-none z = length-empty (rulesOf reading .canon x) (sym made-size ∙ z)
 
   module _ (z : n ≡ 0 → ⊥) where
-    pub name-some : empty (idRules .canon x) ≡ false
-    name-some = length-some (idRules .canon x) (λ (q : length (idRules .canon x) ≡ 0). z (made-size ∙ q))
+    pub name-some : empty (rulesOf reading .canon x) ≡ false
+    name-some = length-some (rulesOf reading .canon x) (λ (q : length (rulesOf reading .canon x) ≡ 0). z (made-size ∙ q))
 
-    pub name-canonical : Canonical idRules (take n after)
-    name-canonical = rw name-is (record { again = idRules-lawful .canon-again x; some = name-some })
+    pub name-canonical : Canonical (rulesOf reading) (take n after)
+    name-canonical = rw name-is (record { again = rules-lawful reading .canon-again x; some = name-some })
 
 -- to slot i of the texts, from the ID's part of s: the parts' lengths as the code has them
-pub made-slot : (s texts last : List ℕ) (start len w i q : ℕ) (made : Form) → w ≡ len → q ≡ 256 → i * 256 + 256 ≤ length texts
-    → Made (take w (drop start s)) (take q (drop (i * 256) texts)) last made
-    → (made ≡ formOf (idRules .canon (take len (drop start s)))) × (take (i * 256) texts ++ (last ++ drop q (drop (i * 256) texts)) ≡ overwrite texts (i * 256) (idRules .canon (take len (drop start s))))
-made-slot s texts last start len w i q made e f room m =
+pub made-slot : (reading : Reading) (s texts last : List ℕ) (start len w i q : ℕ) (made : Form) → w ≡ len → q ≡ 256 → i * 256 + 256 ≤ length texts
+    → Made reading (take w (drop start s)) (take q (drop (i * 256) texts)) last made
+    → (made ≡ formOf (rulesOf reading .canon (take len (drop start s)))) × (take (i * 256) texts ++ (last ++ drop q (drop (i * 256) texts)) ≡ overwrite texts (i * 256) (rulesOf reading .canon (take len (drop start s))))
+made-slot reading s texts last start len w i q made e f room m =
     let x = take len (drop start s) in
     let d = drop (i * 256) texts in
-    let k : Made x (take 256 d) last made = rw (e, f) at m in
+    let k : Made reading x (take 256 d) last made = rw (e, f) at m in
     let l : length (take 256 d) ≡ 256 = length-take-le 256 d (omega (arith, length-drop (i * 256) texts)) in
     rw f (
-      made-form x (take 256 d) last made l k,
-      ap (λ z. take (i * 256) texts ++ (z ++ drop 256 d)) (made-text x (take 256 d) last made l k) ∙ slot-written texts (idRules .canon x) (i * 256) (idRules-lawful .canon-short x) room,
+      made-form reading x (take 256 d) last made l k,
+      ap (λ z. take (i * 256) texts ++ (z ++ drop 256 d)) (made-text reading x (take 256 d) last made l k) ∙ slot-written texts (rulesOf reading .canon x) (i * 256) (rules-lawful reading .canon-short x) room,
     )
+
+-- a canonical form by a reading is one by the general rules
+pub general : (reading : Reading) (a : List ℕ) → Canonical (rulesOf reading) a → Canonical idRules a
+unfolding rulesOf
+general reading a m = record { again = subst (λ z. idRules .canon z ≡ z) (m .again) (canonOf-general reading a); some = m .some }
+
+pub general-texts : (reading : Reading) (texts lens keys : List ℕ) (n : ℕ) → Texts (rulesOf reading) texts lens keys n → Texts idRules texts lens keys n
+general-texts reading texts lens keys n t = record {
+  numbers = t .numbers;
+  each = λ k h. let x = t .each k h in record { canonical = general reading (text texts lens k) (x .canonical); key = x .key };
+}
 
 -- ---- the tests on canonical forms, through equal texts
 

@@ -4,7 +4,7 @@ use native.Mathlib.Omega.{arith}
 use native.Mathlib.Numerals.{add-one}
 use mathlib.Core.Path.{_≡_, refl, sym, ap, ap₂, _∙_}
 use mathlib.Core.Bool.{Bool, true, false, _||_}
-use mathlib.Core.List.{List, [], _∷_, _++_, append-assoc}
+use mathlib.Core.List.{List, _++_, append-assoc}
 use borrow.Author.Count.{below-more}
 use borrow.Author.Tests.{lt-ltb, le-ltb, ltb-true, ltb-false}
 use lib.Dec.{ltb}
@@ -12,7 +12,8 @@ use lib.ListN.{length, getD, take, drop, set, take-append-drop, length-drop, len
 use lib.Seq.{drop-drop, drop-append-le, take-append-le, drop-at, take-at, length-take-le, getD-set-same, getD-set-other}
 use Rattle.wire.specs.Bytes.{empty, overwrite}
 use Rattle.wire.specs.First.{first, anyBelow}
-use Rattle.wire.proofs.Bools.{byBool, clash, or-true, neither-or}
+use Rattle.wire.proofs.Bools.{byBool, or-true, neither-or}
+use Rattle.wire.proofs.ByteLaws.{length-empty, length-some, empty-nil}
 use Rattle.wire.proofs.FirstLaws.{first-le, first-before, first-at, first-is, first-none, any-some, any-none, none-any}
 use Rattle.wire.proofs.OverwriteLaws.{overwrite-in, overwrite-nil, length-overwrite}
 use Rattle.entry_id.specs.IdRules.{IdRules, Lawful}
@@ -23,21 +24,6 @@ use Rattle.canonical_form.specs.Made.{formOf}
 use Rattle.canonical_form.specs.declared.Form.{Form}
 use Rattle.bundle_reader.specs.Examined.{filled, slots, text, form, formLength}
 use Rattle.bundle_reader.specs.Slots.{firstMore, Held, Texts, Room, Formed}
-
-pub length-empty : (l : List ℕ) → length l ≡ 0 → empty l ≡ true
-unfolding empty
-length-empty [] e = refl
-length-empty (x ∷ l) e = absurd (omega arith)
-
-pub length-some : (l : List ℕ) → (length l ≡ 0 → ⊥) → empty l ≡ false
-unfolding empty
-length-some [] n = absurd (n refl)
-length-some (x ∷ l) n = refl
-
-empty-nil : (l : List ℕ) → empty l ≡ true → l ≡ []
-unfolding empty
-empty-nil [] e = refl
-empty-nil (x ∷ l) e = clash false e refl
 
 -- ---- one slot is written
 

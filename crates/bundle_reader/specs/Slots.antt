@@ -15,8 +15,10 @@ use Rattle.bundle.specs.Table.{Row, count, rowStart, row}
 use Rattle.bundle.specs.Check.{badId, outside, overlapStop, unrefused, rowsStop, bundleStop}
 use Rattle.bundle.specs.Accepted.{RowFits, Accepted}
 use Rattle.bundle.specs.Records.{rowsOf}
+use Rattle.bundle.specs.Theorems.{refusal}
 use Rattle.bundle.specs.declared.Checked.{Checked}
 use Rattle.bundle.specs.declared.EntryRecord.{EntryRecord}
+use Rattle.bundle.specs.declared.Picked.{Picked}
 use Rattle.entry_compare.specs.declared.Relation.{Relation}
 use Rattle.bundle_reader.specs.Examined.{filled, slots, text, form, formLength, rowsIn, formsOf}
 
@@ -112,6 +114,11 @@ pub record Pickable (R : IdRules) (s texts lens keys : List ℕ) (n : ℕ) : Typ
 pub record Known (R : IdRules) (s texts lens keys : List ℕ) (c : Checked) : Type 0 where
   pub stop-is : stop (c .number) (c .place) ≡ bundleStop R s
   pub pickable : c .number ≡ 0 → Pickable R s texts lens keys (c .count)
+
+-- the answer of a pick from n entries of s, of which i is the first that is compatible, or n
+pub record Chosen (s : List ℕ) (n i : ℕ) (r : Picked) : Type 0 where
+  pub none : n ≤ i → r ≡ refusal 10 0
+  pub image : i < n → r ≡ record { number = 0; place = 0; index = i; position = row s i .offset; size = row s i .size }
 
 -- what refuses n rows; where nothing does, their canonical IDs
 pub record Judged (R : IdRules) (t : Stop) (rows : ℕ → Row) (n : ℕ) (texts lens : List ℕ) (number place : ℕ) : Type 0 where

@@ -1,7 +1,6 @@
 // The check of a bundle, the pick of the image for a device name, and the entry at an index.
 ghost use mathlib.Core.Path.{_≡_};
 ghost use mathlib.Core.Bool.{true, false};
-ghost use mathlib.Core.List.{List};
 ghost use Prim.Native.Nat.{ℕ, _+_, _*_, _-_, _<_, _≤_};
 ghost use lib.Dec.{ltb};
 ghost use lib.ListN.{length, take, drop, replicate};
@@ -10,7 +9,8 @@ ghost use Rattle.wire.specs.First.{first};
 ghost use Rattle.wire.specs.Limit.{limit};
 ghost use Rattle.wire.specs.Stop.{go, stop, _⨾_, stopIf, stopAt, earlier};
 ghost use Rattle.entry_id.specs.Canonical.{headKey};
-ghost use Rattle.entry_id.specs.Rules.{idRules};
+ghost use Rattle.entry_id.specs.IdRules.{IdRules};
+ghost use Rattle.entry_id.specs.Rules.{idRules, rulesOf};
 ghost use Rattle.bundle.specs.Table.{count, rowStart, row};
 ghost use Rattle.bundle.specs.Check.{badRow, outside, overlaps, overlapStop, unrefused, headStop, check};
 ghost use Rattle.bundle.specs.Pick.{pick};
@@ -20,13 +20,14 @@ ghost use Rattle.bundle.specs.EntryAt.{entryAt, unlocated};
 ghost use Rattle.bundle.specs.Records.{noRecord, recordAt, rowsOf, badPart};
 ghost use Rattle.canonical_form.specs.Made.{formOf};
 ghost use Rattle.bundle_reader.specs.Examined.{filled, slots, text, form, formLength, heldRow, rowsIn, examined, formsOf, examinedRecords, formsOfRecords};
-ghost use Rattle.bundle_reader.specs.Slots.{Inner, span, spans, Spans, Compared, Tabled, firstMore, Room, Formed, Canonical, Texts, Pickable, Known, near, relation, relations};
+ghost use Rattle.bundle_reader.specs.Slots.{Inner, span, spans, Spans, Compared, Tabled, firstMore, Room, Formed, Canonical, Texts, Chosen, Known, near, relation, relations};
 use bundle::Checked;
 use bundle::EntryRecord;
 use bundle::Located;
 use bundle::Picked;
 use canonical_form::Form;
 use entry_compare::Relation;
+use entry_id::Reading;
 
 // The table of a bundle: what of 1 to 4 refuses it; where nothing does, 0, 0, the count and where the table ends.
 struct Table {
@@ -125,7 +126,7 @@ pub fn no_records() -> [EntryRecord; 64]
 // 4, of a table of n rows. Only lengths are read.
 fn table_end(s: &[u8], n: usize) -> Table
     requires { ⌜ (headStop (now s) ≡ go) × (n ≡ count (now s)) ⌝ }
-    ensures { λ r. ⌜ Tabled idRules (now (s .entry)) (r .number) (r .place) (r .count) (r .end) ⌝ }
+    ensures { λ r. ⌜ ((R : IdRules) → Tabled R (now (s .entry)) (r .number) (r .place) (r .count) (r .end)) ⌝ }
 {
     let mut i: usize = 0;
     let mut at: usize = 32;
@@ -151,7 +152,7 @@ fn table_end(s: &[u8], n: usize) -> Table
 
 // 1 to 4.
 fn frame(s: &[u8]) -> Table
-    ensures { λ r. ⌜ Tabled idRules (now (s .entry)) (r .number) (r .place) (r .count) (r .end) ⌝ }
+    ensures { λ r. ⌜ ((R : IdRules) → Tabled R (now (s .entry)) (r .number) (r .place) (r .count) (r .end)) ⌝ }
 {
     let number = head(s);
     if 0 < number {
@@ -219,13 +220,26 @@ fn first_outside(first: usize, i: usize, row: EntryRecord, end: usize, len: usiz
     first_of(first, i, outside_row(row, end, len))
 }
 
-// The canonical form of the ID of `len` bytes at `start`, to slot i; of length 0 where the ID breaks the rules.
-fn canonical_at(s: &[u8], start: usize, len: usize, texts: &mut [u8], i: usize) -> Form
+// The canonical form of the ID of `len` bytes at `start`, to slot i; of length 0 where the ID breaks the rules. Through `canonical_by`, one call more for each
+// ID, a general check takes a fifth longer.
+fn canonical_at(
+    reading: Reading,
+    s: &[u8],
+    start: usize,
+    len: usize,
+    texts: &mut [u8],
+    i: usize,
+) -> Form
     requires { ⌜ (start + len ≤ length (now s)) × (i * 256 + 256 ≤ length (now texts)) ⌝ }
-    ensures { λ r. ⌜ (r ≡ formOf (idRules .canon (take len (drop start (now (s .entry)))))) × (now (texts .exit) ≡ overwrite (now (texts .entry)) (i * 256) (idRules .canon (take len (drop start (now (s .entry)))))) ⌝ }
+    ensures { λ r. ⌜ (r ≡ formOf (rulesOf reading .canon (take len (drop start (now (s .entry)))))) × (now (texts .exit) ≡ overwrite (now (texts .entry)) (i * 256) (rulesOf reading .canon (take len (drop start (now (s .entry)))))) ⌝ }
 {
     let from = i * 256;
-    canonical_form::canonical(&s[start..start + len], &mut texts[from..from + 256])
+    let id = &s[start..start + len];
+    let slot = &mut texts[from..from + 256];
+    match reading {
+        Reading::General => canonical_form::canonical(id, slot),
+        Reading::Profile => profile_form::canonical_profile(id, slot),
+    }
 }
 
 // The text of slot k: the slots of `texts` have 256 bytes each, `lens` has the lengths of what they hold.
@@ -516,7 +530,7 @@ fn examine_records_in(
     let mut out: usize = 0;
     while i < n {
         let row = rows[i];
-        let made = canonical_at(ids, row.id_start, row.id_len, texts, i);
+        let made = canonical_at(Reading::General, ids, row.id_start, row.id_len, texts, i);
         let size = made.length;
         if size == 0 {
             return refused(5, i);
@@ -574,9 +588,15 @@ fn checked(r: Refusal, n: usize) -> Checked
 }
 
 // 1 to 8 and 21 of a bundle, with the canonical IDs in their slots. For 5 and 6 each row is read once, when its turn comes.
-fn check_in(s: &[u8], texts: &mut [u8], lens: &mut [usize], keys: &mut [u64]) -> Checked
+fn check_in(
+    reading: Reading,
+    s: &[u8],
+    texts: &mut [u8],
+    lens: &mut [usize],
+    keys: &mut [u64],
+) -> Checked
     requires { ⌜ (count (now s) ≤ 64 → Room (count (now s)) (now texts) (now lens) (now keys)) ⌝ }
-    ensures { λ r. ⌜ (r ≡ check idRules (now (s .entry))) × Formed idRules (row (now (s .entry))) (formsOf idRules (now (s .entry))) (now (texts .entry)) (now (lens .entry)) (now (keys .entry)) (now (texts .exit)) (now (lens .exit)) (now (keys .exit)) ⌝ }
+    ensures { λ r. ⌜ (r ≡ check (rulesOf reading) (now (s .entry))) × Formed (rulesOf reading) (row (now (s .entry))) (formsOf (rulesOf reading) (now (s .entry))) (now (texts .entry)) (now (lens .entry)) (now (keys .entry)) (now (texts .exit)) (now (lens .exit)) (now (keys .exit)) ⌝ }
 {
     let t = frame(s);
     let number = t.number;
@@ -590,7 +610,7 @@ fn check_in(s: &[u8], texts: &mut [u8], lens: &mut [usize], keys: &mut [u64]) ->
     while i < n {
         let row = row_at(s, at);
         at = row.id_start + row.id_len;
-        let made = canonical_at(s, row.id_start, row.id_len, texts, i);
+        let made = canonical_at(reading, s, row.id_start, row.id_len, texts, i);
         let size = made.length;
         if size == 0 {
             return not_checked(5, i);
@@ -620,10 +640,10 @@ fn read_table(s: &[u8], n: usize) -> [EntryRecord; 64]
     rows
 }
 
-// What was checked, with its rows. A refused bundle has none.
+// What was checked, with its rows, none of which is bad. A refused bundle has none.
 fn with_rows(s: &[u8], c: Checked) -> Examined
-    requires { ⌜ c ≡ check idRules (now s) ⌝ }
-    ensures { λ r. ⌜ r ≡ examined idRules (now (s .entry)) ⌝ }
+    requires { ⌜ (c .count ≤ 64) × ((k : ℕ) → k < c .count → RowFits (now s) (rowStart (now s) k)) ⌝ }
+    ensures { λ r. ⌜ r ≡ record { number = c .number; place = c .place; count = c .count; rows = rowsIn (now (s .entry)) (c .count) } ⌝ }
 {
     let count = c.count;
     Examined {
@@ -634,32 +654,44 @@ fn with_rows(s: &[u8], c: Checked) -> Examined
     }
 }
 
-// 1 to 8 and 21 of a bundle: the first that refuses it; else its count and rows, with the canonical IDs in their slots.
-pub fn examine(bundle: &[u8], texts: &mut [u8; 16384], lens: &mut [usize; 64]) -> Examined
-    ensures { λ r. ⌜ r ≡ examined idRules (now (bundle .entry)) ⌝ }
-    ensures { λ _. ⌜ now (texts .exit) ≡ slots (now (texts .entry)) (formsOf idRules (now (bundle .entry))) (form idRules (row (now (bundle .entry)))) ⌝ }
-    ensures { λ _. ⌜ now (lens .exit) ≡ filled (now (lens .entry)) (formsOf idRules (now (bundle .entry))) (formLength idRules (row (now (bundle .entry)))) ⌝ }
+// 1 to 8 and 21 of a bundle, by a reading of its IDs: the first that refuses it; else its count and rows, with the canonical IDs in their slots.
+pub fn examine(
+    reading: Reading,
+    bundle: &[u8],
+    texts: &mut [u8; 16384],
+    lens: &mut [usize; 64],
+) -> Examined
+    ensures { λ r. ⌜ r ≡ examined (rulesOf reading) (now (bundle .entry)) ⌝ }
+    ensures { λ _. ⌜ now (texts .exit) ≡ slots (now (texts .entry)) (formsOf (rulesOf reading) (now (bundle .entry))) (form (rulesOf reading) (row (now (bundle .entry)))) ⌝ }
+    ensures { λ _. ⌜ now (lens .exit) ≡ filled (now (lens .entry)) (formsOf (rulesOf reading) (now (bundle .entry))) (formLength (rulesOf reading) (row (now (bundle .entry)))) ⌝ }
     ensures { λ _. ⌜ (length (now (texts .entry)) ≡ 16384) × (length (now (lens .entry)) ≡ 64) ⌝ }
 {
     let mut keys = [0u64; 64];
-    let c = check_in(bundle, texts, lens, &mut keys);
+    let c = check_in(reading, bundle, texts, lens, &mut keys);
     with_rows(bundle, c)
 }
 
-// The check of a bundle. Few entries need little scratch.
-pub fn check(bundle: &[u8]) -> Checked
-    ensures { λ r. ⌜ r ≡ check idRules (now (bundle .entry)) ⌝ }
+// The check of a bundle by a reading of its IDs. Few entries need little scratch.
+pub fn check_by(reading: Reading, bundle: &[u8]) -> Checked
+    ensures { λ r. ⌜ r ≡ check (rulesOf reading) (now (bundle .entry)) ⌝ }
 {
     if wire_read::word8_at(bundle, 24) <= 8 {
         let mut few = [0u8; 2048];
         let mut few_lens = [0usize; 8];
         let mut few_keys = [0u64; 8];
-        return check_in(bundle, &mut few, &mut few_lens, &mut few_keys);
+        return check_in(reading, bundle, &mut few, &mut few_lens, &mut few_keys);
     }
     let mut lens = [0usize; 64];
     let mut keys = [0u64; 64];
     let mut texts = [0u8; 16384];
-    check_in(bundle, &mut texts, &mut lens, &mut keys)
+    check_in(reading, bundle, &mut texts, &mut lens, &mut keys)
+}
+
+// The check of a bundle, by the general reading.
+pub fn check(bundle: &[u8]) -> Checked
+    ensures { λ r. ⌜ r ≡ check idRules (now (bundle .entry)) ⌝ }
+{
+    check_by(Reading::General, bundle)
 }
 
 // The text of slot k is compatible with the device name, which is canonical and has the number `key`. Texts whose numbers differ are not.
@@ -729,7 +761,7 @@ fn row_of(s: &[u8], i: usize) -> EntryRecord
     row_at(s, at)
 }
 
-// The pick from an accepted bundle of n entries by a canonical device name, which has the number `key`.
+// The image of the first of n entries whose canonical ID is compatible with the device name, which is canonical and has the number `key`.
 fn pick_named(
     s: &[u8],
     texts: &[u8],
@@ -739,8 +771,8 @@ fn pick_named(
     name: &[u8],
     key: u64,
 ) -> Picked
-    requires { ⌜ Pickable idRules (now s) (now texts) (now lens) (now keys) n × Canonical idRules (now name) × (key ≡ headKey (now name)) ⌝ }
-    ensures { λ r. ⌜ ((device : List ℕ) → now (name .entry) ≡ idRules .canon device → r ≡ pick idRules (now (s .entry)) device) ⌝ }
+    requires { ⌜ ((k : ℕ) → k < n → RowFits (now s) (rowStart (now s) k)) × Texts idRules (now texts) (now lens) (now keys) n × Canonical idRules (now name) × (key ≡ headKey (now name)) ⌝ }
+    ensures { λ r. ⌜ Chosen (now (s .entry)) n (first n (λ k. idRules .compatible (text (now (texts .entry)) (now (lens .entry)) k) (now (name .entry)))) r ⌝ }
 {
     let i = first_compatible(texts, lens, keys, n, name, key);
     if n <= i {
@@ -758,6 +790,7 @@ fn pick_named(
 
 // The pick from a bundle that was checked.
 fn pick_checked(
+    reading: Reading,
     c: Checked,
     s: &[u8],
     device: &[u8],
@@ -765,15 +798,15 @@ fn pick_checked(
     lens: &[usize],
     keys: &[u64],
 ) -> Picked
-    requires { ⌜ Known idRules (now s) (now texts) (now lens) (now keys) c ⌝ }
-    ensures { λ r. ⌜ r ≡ pick idRules (now (s .entry)) (now (device .entry)) ⌝ }
+    requires { ⌜ Known (rulesOf reading) (now s) (now texts) (now lens) (now keys) c ⌝ }
+    ensures { λ r. ⌜ r ≡ pick (rulesOf reading) (now (s .entry)) (now (device .entry)) ⌝ }
 {
     let number = c.number;
     if 0 < number {
         return no_image(number, c.place);
     }
     let mut name = [0u8; 256];
-    let made = canonical_form::canonical(device, &mut name);
+    let made = profile_form::canonical_by(reading, device, &mut name);
     let len = made.length;
     if len == 0 {
         return no_image(9, 0);
@@ -782,35 +815,42 @@ fn pick_checked(
 }
 
 // The pick from a bundle of few entries, which needs little scratch.
-fn pick_few(bundle: &[u8], device: &[u8]) -> Picked
+fn pick_few(reading: Reading, bundle: &[u8], device: &[u8]) -> Picked
     requires { ⌜ count (now bundle) ≤ 8 ⌝ }
-    ensures { λ r. ⌜ r ≡ pick idRules (now (bundle .entry)) (now (device .entry)) ⌝ }
+    ensures { λ r. ⌜ r ≡ pick (rulesOf reading) (now (bundle .entry)) (now (device .entry)) ⌝ }
 {
     let mut texts = [0u8; 2048];
     let mut lens = [0usize; 8];
     let mut keys = [0u64; 8];
-    let c = check_in(bundle, &mut texts, &mut lens, &mut keys);
-    pick_checked(c, bundle, device, &texts, &lens, &keys)
+    let c = check_in(reading, bundle, &mut texts, &mut lens, &mut keys);
+    pick_checked(reading, c, bundle, device, &texts, &lens, &keys)
 }
 
-fn pick_many(bundle: &[u8], device: &[u8]) -> Picked
-    ensures { λ r. ⌜ r ≡ pick idRules (now (bundle .entry)) (now (device .entry)) ⌝ }
+fn pick_many(reading: Reading, bundle: &[u8], device: &[u8]) -> Picked
+    ensures { λ r. ⌜ r ≡ pick (rulesOf reading) (now (bundle .entry)) (now (device .entry)) ⌝ }
 {
     let mut texts = [0u8; 16384];
     let mut lens = [0usize; 64];
     let mut keys = [0u64; 64];
-    let c = check_in(bundle, &mut texts, &mut lens, &mut keys);
-    pick_checked(c, bundle, device, &texts, &lens, &keys)
+    let c = check_in(reading, bundle, &mut texts, &mut lens, &mut keys);
+    pick_checked(reading, c, bundle, device, &texts, &lens, &keys)
 }
 
-// The pick of an image from a bundle by a device name.
+// The pick of an image from a bundle by a device name, by a reading of its IDs and of the name.
+pub fn pick_by(reading: Reading, bundle: &[u8], device: &[u8]) -> Picked
+    ensures { λ r. ⌜ r ≡ pick (rulesOf reading) (now (bundle .entry)) (now (device .entry)) ⌝ }
+{
+    if wire_read::word8_at(bundle, 24) <= 8 {
+        return pick_few(reading, bundle, device);
+    }
+    pick_many(reading, bundle, device)
+}
+
+// The pick of an image from a bundle by a device name, by the general reading.
 pub fn pick(bundle: &[u8], device: &[u8]) -> Picked
     ensures { λ r. ⌜ r ≡ pick idRules (now (bundle .entry)) (now (device .entry)) ⌝ }
 {
-    if wire_read::word8_at(bundle, 24) <= 8 {
-        return pick_few(bundle, device);
-    }
-    pick_many(bundle, device)
+    pick_by(Reading::General, bundle, device)
 }
 
 // The refusal of a call by an entry's index.

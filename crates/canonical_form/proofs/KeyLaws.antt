@@ -4,21 +4,27 @@ use native.Mathlib.Omega.{arith}
 use mathlib.Core.Path.{_≡_, sym, ap, _∙_}
 use mathlib.Core.Bool.{cond}
 use mathlib.Core.List.{List, _∷_, _++_}
-use lib.Dec.{eqb, leb, eqb→eq, leb→le}
+use lib.Dec.{T, eqb, leb, eqb→eq, leb→le}
 use lib.ListN.{length, getD, length-append}
 use borrow.Author.Tests.{eq-eqb, ne-eqb}
 use Rattle.wire.specs.Bytes.{same}
-use Rattle.wire.specs.Lists.{every}
+use Rattle.wire.specs.Lists.{any, every}
 use Rattle.entry_id.specs.Meaning.{kinds}
 use Rattle.entry_id.specs.Compare.{comparedKind}
 use Rattle.entry_id.specs.Canonical.{kindPart}
 use Rattle.entry_id.proofs.ReadBack.{any-holds, kind-bytes}
 use Rattle.entry_id.proofs.KindLaws.{kind-before}
 use Rattle.canonical_form.specs.Heads.{Kinded}
+use Rattle.canonical_form.specs.Made.{comparedLength}
 
 -- the length of the kind, by the first, second and fourth bytes
 unfoldable pub byBytes : List ℕ → ℕ
 byBytes x = cond (eqb (getD x 0 0) 111) 6 (cond (eqb (getD x 1 0) 111) 4 (cond (eqb (getD x 3 0) 45) 3 5))
+
+-- the kind that a kind is compared as has the length that its own length tells
+pub compared-length : (k : List ℕ) → T (any (same k) kinds) → length (comparedKind k) ≡ comparedLength (length k)
+unfolding kinds every comparedKind same comparedLength
+compared-length k t = eqb→eq _ _ (any-holds (λ k. eqb (length (comparedKind k)) (comparedLength (length k))) k kinds t tt)
 
 module _ (x : List ℕ) (h : Kinded x) where
   kind-is : kindPart x ≡ h .kind
@@ -38,16 +44,14 @@ module _ (x : List ℕ) (h : Kinded x) where
       let n : length x ≡ _ = ap length (h .is) ∙ length-append (h .kind) (45 ∷ h .rest) in
       (omega (arith, k, n), omega (arith, n, ap length kind-is))
 
-  compared-length : length (comparedKind (kindPart x)) ≡ cond (eqb (length (kindPart x)) 5) 3 (length (kindPart x))
-  unfolding kinds every comparedKind same
-  compared-length =
-      rw kind-is
-      (eqb→eq _ _ (any-holds (λ k. eqb (length (comparedKind k)) (cond (eqb (length k) 5) 3 (length k))) (h .kind) kinds (h .kind-in) tt))
+  pub compared-here : length (comparedKind (kindPart x)) ≡ comparedLength (length (kindPart x))
+  compared-here = rw kind-is (compared-length (h .kind) (h .kind-in))
 
-  -- the kind has n bytes
-  module _ (n : ℕ) (e : n ≡ length (kindPart x)) where
-    pub five-as-three : n ≡ 5 → 3 ≡ length (comparedKind (kindPart x))
-    five-as-three f = sym (compared-length ∙ rw (eq-eqb (length (kindPart x)) 5 (sym e ∙ f)))
+-- as `key_behind` tells them
+pub five-as-three : (n : ℕ) → n ≡ 5 → 3 ≡ comparedLength n
+unfolding comparedLength
+five-as-three n e = rw (eq-eqb n 5 e)
 
-    pub others-as-spelled : (n ≡ 5 → ⊥) → n ≡ length (comparedKind (kindPart x))
-    others-as-spelled f = e ∙ sym (compared-length ∙ rw (ne-eqb (length (kindPart x)) 5 (λ g. f (e ∙ g))))
+pub others-as-spelled : (n : ℕ) → (n ≡ 5 → ⊥) → n ≡ comparedLength n
+unfolding comparedLength
+others-as-spelled n f = rw (ne-eqb n 5 f)

@@ -25,7 +25,7 @@ use Rattle.entry_id.proofs.CompareLaws.{piece-feature, valid-signed}
 use Rattle.entry_id.specs.Scan.{part, piecesAt}
 use Rattle.canonical_form.specs.Heads.{HeadAt, Kinded}
 use Rattle.canonical_form.specs.Spans.{pieceOk, good, pieceAt, atOf, signOf, nameOf, chunkOf, chunks, Pieces, headText, PlanAt, PlanIs}
-use Rattle.entry_id.specs.Canonical.{canonicalIn, kindPart, afterKind, keyOf, headKey}
+use Rattle.entry_id.specs.Canonical.{inRoom, canonicalIn, kindPart, afterKind, keyOf, headKey}
 use Rattle.entry_id.proofs.RunLaws.{part-cons, part-length, part-split, part-rest, pieces-here, pieces-none}
 use Rattle.wire.specs.Bytes.{overwrite}
 use Rattle.wire.proofs.OverwriteLaws.{overwrite-in, overwrite-then}
@@ -380,7 +380,7 @@ plan-no v e = record { found = λ t. let z : _≡_ {A = Bool} true false = sym t
 -- ---- writing
 
 pub canon-none : (n : ℕ) (x : List ℕ) → valid x ≡ false → canonicalIn n x ≡ []
-unfolding canonicalIn
+unfolding canonicalIn inRoom
 canon-none n x e = ap (λ (l : List ℕ). cond (leb (length l) n) l []) (canon-refused x e) ∙ cond-same (leb 0 n)
   where
     cond-same : (b : Bool) → cond {A = List ℕ} b [] [] ≡ []
@@ -397,7 +397,7 @@ module _ (x : List ℕ) (at dashes stop upto n : ℕ) (t : List ℕ) (p : PlanAt
   canon-write = canon-is x (p .right)
 
   pub canon-small : (k : ℕ) → k < length x + dashes → canonicalIn k x ≡ []
-  unfolding canonicalIn
+  unfolding canonicalIn inRoom
   canon-small k h = rw (is-false (leb (length (canon x)) k) (λ u. let a = leb→le (length (canon x)) k u in omega (arith, ap length canon-write, p .long)))
 
   plan-head : length (headText x at dashes upto) ≡ upto + dashes
@@ -408,7 +408,7 @@ module _ (x : List ℕ) (at dashes stop upto n : ℕ) (t : List ℕ) (p : PlanAt
 
   module _ (o : List ℕ) (room : length x + dashes ≤ length o) where
     canon-fits : canonicalIn (length o) x ≡ headText x at dashes upto ++ chunks x (take n t)
-    unfolding canonicalIn
+    unfolding canonicalIn inRoom
     canon-fits =
         let k : T (leb (length (canon x)) (length o)) = le→leb (length (canon x)) (length o) (omega (arith, ap length canon-write, p .long)) in
         rw (is-true (leb (length (canon x)) (length o)) k) (canon-write ∙ p .text)

@@ -1,41 +1,24 @@
 -- What a processor's bytes are: a field, or a run behind which the head ends, with two ends. Assumes nothing.
-use Prim.Native.Nat.{ℕ, zero, suc, _+_, _-_, _≤_, _<_}
+use Prim.Native.Nat.{ℕ, suc, _+_, _-_, _≤_, _<_}
 use mathlib.Core.Path.{_≡_, refl, sym, ap, _∙_}
 use mathlib.Core.Bool.{Bool, true, false, not, _&&_, _||_}
-use mathlib.Core.List.{List, [], _∷_, _++_}
+use mathlib.Core.List.{List, _++_}
 use native.Mathlib.Omega.{arith}
 use lib.ListN.{length, getD, drop}
 use lib.Seq.{drop-cons, getD-take, getD-drop}
 use lib.Dec.{T, eqb, ltb}
 use borrow.Author.Tests.{ltb-true, ltb-false}
 use Rattle.wire.specs.Lists.{every}
-use Rattle.wire.proofs.Bools.{byBool, clash, and-l, and-r, and-t, is-true, is-false}
-use Rattle.entry_id.specs.Text.{otherThan, notColon}
-use Rattle.entry_id.specs.Meaning.{fieldByte, processorByte, processorShaped}
+use Rattle.wire.proofs.Bools.{byBool, clash, is-true, is-false}
+use Rattle.entry_id.specs.Text.{notColon}
+use Rattle.entry_id.specs.Meaning.{processorByte, processorShaped}
 use Rattle.entry_id.specs.Canonical.{headOf}
 use Rattle.entry_id.specs.Scan.{part, Run, endsAt}
-use Rattle.entry_id.proofs.TextLaws.{avoids}
-use Rattle.entry_id.proofs.ReadBack.{no-dash, as-processor, processor-plain, shaped-bytes}
+use Rattle.entry_id.proofs.ReadBack.{processor-plain, shaped-bytes}
 use Rattle.entry_id.proofs.KindLaws.{head-start, head-more}
 use Rattle.entry_id.proofs.RunLaws.{part-length, part-drop, goes-on, stop-here}
 use Rattle.canonical_form.proofs.CutLaws.{every-not}
 use Rattle.canonical_form.proofs.HeadLaws.{not-t}
-
--- ---- a field alone
-
-no-hyphen : (f : List ℕ) (i : ℕ) → T (every fieldByte f) → T (not (eqb (getD f i 0) 45))
-unfolding every otherThan
-no-hyphen [] i t = tt
-no-hyphen (b ∷ f) zero t = avoids 45 fieldByte no-dash b (and-l (fieldByte b) (every fieldByte f) t)
-no-hyphen (b ∷ f) (suc i) t = no-hyphen f i (and-r (fieldByte b) (every fieldByte f) t)
-
-pub field-shaped : (f : List ℕ) → T (every fieldByte f) → T (processorShaped f)
-unfolding processorShaped
-field-shaped f t =
-    let b = as-processor f t in
-    let first = no-hyphen f 0 t in
-    let last = no-hyphen f (length f - 1) t in
-    search and-t depth 6
 
 -- ---- a run of a processor's bytes
 

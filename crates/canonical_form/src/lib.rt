@@ -5,11 +5,11 @@ mod plan;
 mod scan;
 
 ghost use mathlib.Core.Path.{_≡_};
-ghost use Prim.Native.Nat.{_-_};
+ghost use Prim.Native.Nat.{_+_, _-_, _%_, _^_};
 ghost use mathlib.Core.List.{[], _++_};
 ghost use lib.ListN.{length, drop};
 ghost use Rattle.wire.specs.Word.{word};
-ghost use Rattle.canonical_form.specs.Made.{formOf};
+ghost use Rattle.canonical_form.specs.Made.{formOf, comparedLength};
 ghost use Rattle.entry_id.specs.Canonical.{kindPart, afterKind, headNumber, keyOf, canonicalIn};
 ghost use Rattle.canonical_form.specs.Heads.{Kinded};
 
@@ -30,7 +30,7 @@ fn last_word(head: &[u8]) -> u64
 }
 
 // The number of a head.
-fn head_number(head: &[u8]) -> u64
+pub fn head_number(head: &[u8]) -> u64
     ensures { λ r. ⌜ r ≡ headNumber (now (head .entry)) ⌝ }
 {
     std::num::wrapping_add_u64(wire_read::word8_at(head, 0), last_word(head))
@@ -62,17 +62,25 @@ fn kind_length(head: &[u8]) -> usize
     HIPV4
 }
 
-// The key of a form with this head: hipv4 is compared as hip.
+// The key of a form with a kind of `kind` bytes and this head behind it: hipv4 is compared as hip.
+pub fn key_behind(kind: usize, head: &[u8]) -> u64
+    ensures { λ r. ⌜ r ≡ (headNumber (now (head .entry)) + comparedLength kind) % 2 ^ 64 ⌝ }
+{
+    let compared = if kind == HIPV4 { HIP } else { kind };
+    std::num::wrapping_add_u64(head_number(head), compared as u64)
+}
+
+// The key of a form with this head.
 fn head_key(head: &[u8]) -> u64
     requires { ⌜ Kinded (now head) ⌝ }
     ensures { λ r. ⌜ r ≡ keyOf (kindPart (now (head .entry))) (afterKind (now (head .entry))) ⌝ }
 {
     let kind = kind_length(head);
-    let compared = if kind == HIPV4 { HIP } else { kind };
-    std::num::wrapping_add_u64(head_number(&head[kind..]), compared as u64)
+    key_behind(kind, &head[kind..])
 }
 
-fn no_form() -> Form
+// No form was made.
+pub fn no_form() -> Form
     ensures { λ r. ⌜ r ≡ formOf [] ⌝ }
 {
     Form { length: 0, key: 0 }

@@ -5,32 +5,18 @@ ghost use mathlib.Core.Bool.{true, false};
 ghost use lib.ListN.{length};
 ghost use Rattle.wire.specs.Lists.{any, agree};
 ghost use Rattle.wire.specs.Bytes.{same, common};
-ghost use Rattle.entry_id.specs.Text.{otherThan, notColon};
+ghost use Rattle.entry_id.specs.Text.{notColon};
 ghost use Rattle.entry_id.specs.Scan.{Run, piecesAt};
 ghost use Rattle.entry_id.specs.Compare.{comparedKind};
 ghost use Rattle.entry_id.specs.Canonical.{within, signByte, sameButSign, compatibleSpelled, mixedSpelled, compatibleText, sameText, mixedText};
 ghost use Rattle.entry_compare.specs.Meet.{MeetIs, KindEnds, CutIs};
-
-// Where the first c stands, or the end.
-fn find(x: &[u8], c: u8) -> usize
-    ensures { λ r. ⌜ Run (otherThan c) (now (x .entry)) 0 r ⌝ }
-{
-    let mut i = 0;
-    while i < x.len() {
-        if x[i] == c {
-            return i;
-        }
-        i += 1;
-    }
-    i
-}
 
 // The first ':' from `from` on, or the end.
 fn colon(x: &[u8], from: usize) -> usize
     requires { ⌜ from ≤ length (now x) ⌝ }
     ensures { λ r. ⌜ Run notColon (now (x .entry)) from r ⌝ }
 {
-    from + find(&x[from..], b':')
+    wire_read::find(x, from, b':')
 }
 
 // Whether p is among the pieces of x whose head ends at stop.
@@ -153,8 +139,8 @@ fn relation_from(a: &[u8], b: &[u8], n: usize) -> Relation
 fn kind_end(x: &[u8]) -> usize
     ensures { λ r. ⌜ KindEnds (now (x .entry)) r ⌝ }
 {
-    let d = find(x, b'-');
-    find(&x[..d], b':')
+    let d = wire_read::find(x, 0, b'-');
+    wire_read::find(&x[..d], 0, b':')
 }
 
 // The kind that a kind is compared as: hip for hipv4.

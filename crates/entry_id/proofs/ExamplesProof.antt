@@ -6,7 +6,9 @@ use Rattle.wire.specs.Bytes.{empty, same, before}
 use Rattle.entry_id.specs.Text.{onFirst, splitOn, joinWith}
 use Rattle.entry_id.specs.Meaning.{fieldsOf, piecesOf, namesProcessor, fifthIsProcessor, feature, meaningOf, meaning, sign, piece, sixFields, canonicalOf}
 use Rattle.entry_id.specs.Meaning.{nameByte, fieldByte, processorByte, processorShaped, kinds, signed, named, shaped, proper, valid, canon}
-use Rattle.entry_id.specs.Examples.{IdExamples}
+use Rattle.entry_id.specs.Processors.{processors, names, stands, primaryIn}
+use Rattle.entry_id.specs.Profile.{ourKinds, ours, primaryOf, supported, supports, known, withPrimary, profileMeaning, profileProper, profileValid, profileCanon}
+use Rattle.entry_id.specs.Examples.{IdExamples, longId, ProfileExamples}
 
 pub idExamples : IdExamples
 unfolding empty same before every any onFirst splitOn joinWith fieldsOf piecesOf namesProcessor fifthIsProcessor feature insertBy sortBy meaningOf meaning sign piece sixFields canonicalOf nameByte fieldByte processorByte processorShaped kinds signed risingBy named shaped proper valid canon
@@ -40,4 +42,31 @@ idExamples = record {
   hyphen-last = refl;
   hyphen-colon = refl;
   hyphens-inside = refl;
+}
+
+pub profileExamples : ProfileExamples
+unfolding empty same before every any onFirst splitOn joinWith fieldsOf piecesOf namesProcessor fifthIsProcessor feature insertBy sortBy meaningOf meaning sign piece sixFields canonicalOf nameByte fieldByte processorByte processorShaped kinds signed risingBy named shaped proper valid canon processors names stands primaryIn ourKinds ours primaryOf supported supports known withPrimary profileMeaning profileProper profileValid profileCanon longId
+profileExamples = record {
+  alternative = refl;
+  means-primary = refl;
+  first-row = refl;
+  last-row = refl;
+  fifth = refl;
+  unknown = refl;
+  longer = refl;
+  capital = refl;
+  unsupported = refl;
+  other-feature = refl;
+  second-feature = refl;
+  generic-xnack = refl;
+  generic-none = refl;
+  supported = refl;
+  limit = refl;
+  limit-size = refl;
+  above = refl;
+  above-general = refl;
+  shorter = refl;
+  host = refl;
+  other-arch = refl;
+  no-processor = refl;
 }

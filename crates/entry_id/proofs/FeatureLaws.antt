@@ -21,7 +21,7 @@ beq-refl : (a : Bool) → T (Bool·beq a a)
 beq-refl true = tt
 beq-refl false = tt
 
-beq-eq : (a b : Bool) → T (Bool·beq a b) → a ≡ b
+pub beq-eq : (a b : Bool) → T (Bool·beq a b) → a ≡ b
 beq-eq true true t = refl
 beq-eq true false t = absurd t
 beq-eq false true t = absurd t
@@ -71,11 +71,11 @@ unfolding agree
 agree-refl t h [] = tt
 agree-refl t h (x ∷ a) = and-t (t x x) (agree t a a) (h x) (agree-refl t h a)
 
-sameTarget-eq : (a b : Meaning) → T (sameTarget a b) → sixFields (comparedAs a) ≡ sixFields (comparedAs b)
+pub sameTarget-eq : (a b : Meaning) → T (sameTarget a b) → sixFields (comparedAs a) ≡ sixFields (comparedAs b)
 unfolding sameTarget
 sameTarget-eq a b t = agree-eq same same-eq (sixFields (comparedAs a)) (sixFields (comparedAs b)) t
 
-eq-sameTarget : (a b : Meaning) → sixFields (comparedAs a) ≡ sixFields (comparedAs b) → T (sameTarget a b)
+pub eq-sameTarget : (a b : Meaning) → sixFields (comparedAs a) ≡ sixFields (comparedAs b) → T (sameTarget a b)
 unfolding sameTarget
 eq-sameTarget a b e = subst (λ fs. T (agree same (sixFields (comparedAs a)) fs)) e (agree-refl same same-refl (sixFields (comparedAs a)))
 

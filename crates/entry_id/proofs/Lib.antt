@@ -5,6 +5,9 @@ pub mod CompareLaws
 pub mod SignLaws
 pub mod KindLaws
 pub mod ProcessorLaws
+pub mod NameLaws
+pub mod LengthLaws
+pub mod ProfileLaws
 pub mod CanonicalLaws
 pub mod Theorems
 pub mod ExamplesProof

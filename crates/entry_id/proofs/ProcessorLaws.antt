@@ -1,22 +1,22 @@
 -- Where a processor starts and how far it runs. Assumes nothing.
-use Prim.Native.Nat.{ℕ}
+use Prim.Native.Nat.{ℕ, zero, suc, _-_}
 use Prim.Native.Char.{code}
 use mathlib.Core.Path.{_≡_, refl, sym, ap, _∙_}
 use mathlib.Core.Logic.{inl, inr}
-use mathlib.Core.Bool.{true}
+use mathlib.Core.Bool.{true, not}
 use mathlib.Core.List.{List, [], _∷_, _++_, append-nil, append-assoc}
-use lib.ListN.{getD, take, drop, take-append-drop}
-use lib.Dec.{T}
+use lib.ListN.{length, getD, take, drop, take-append-drop}
+use lib.Dec.{T, eqb}
 use Rattle.wire.specs.Lists.{every}
 use Rattle.wire.specs.Bytes.{bytes, same}
-use Rattle.wire.proofs.Bools.{or-t, of-true}
+use Rattle.wire.proofs.Bools.{and-l, and-r, and-t, or-t, of-true}
 use Rattle.wire.proofs.ByteLaws.{same-eq}
-use Rattle.entry_id.specs.Text.{splitOn, joinWith, notColon}
-use Rattle.entry_id.specs.Meaning.{fieldsOf, namesProcessor, fifthIsProcessor, meaningOf, meaning, nameByte, fieldByte}
+use Rattle.entry_id.specs.Text.{splitOn, joinWith, otherThan, notColon}
+use Rattle.entry_id.specs.Meaning.{fieldsOf, namesProcessor, fifthIsProcessor, meaningOf, meaning, nameByte, fieldByte, processorShaped}
 use Rattle.entry_id.specs.Canonical.{headOf}
 use Rattle.entry_id.specs.Theorems.{ProcessorRuns}
-use Rattle.entry_id.proofs.TextLaws.{split-start, split-some, split-join-last, join-split}
-use Rattle.entry_id.proofs.ReadBack.{no-dash, join-not-colon, environment-plain}
+use Rattle.entry_id.proofs.TextLaws.{avoids, split-start, split-some, split-join-last, join-split}
+use Rattle.entry_id.proofs.ReadBack.{no-dash, as-processor, join-not-colon, environment-plain}
 use Rattle.entry_id.proofs.KindLaws.{head-start}
 
 -- ---- how a processor begins
@@ -52,6 +52,22 @@ named-field p t =
     let (q, qs, e) = split-some (code "-") (n .rest) in
     ap (λ z. namesProcessor (getD (splitOn (code "-") z) 0 [])) (n .is)
     ∙ ap (λ (l : List (List ℕ)). namesProcessor (getD l 0 [])) (split-start (code "-") fieldByte no-dash (n .start) (n .rest) q qs (n .start-bytes) e) ∙ n .named q
+
+-- ---- a field is one
+
+no-hyphen : (f : List ℕ) (i : ℕ) → T (every fieldByte f) → T (not (eqb (getD f i 0) (code "-")))
+unfolding every otherThan
+no-hyphen [] i t = tt
+no-hyphen (b ∷ f) zero t = avoids (code "-") fieldByte no-dash b (and-l (fieldByte b) (every fieldByte f) t)
+no-hyphen (b ∷ f) (suc i) t = no-hyphen f i (and-r (fieldByte b) (every fieldByte f) t)
+
+pub field-shaped : (f : List ℕ) → T (every fieldByte f) → T (processorShaped f)
+unfolding processorShaped
+field-shaped f t =
+    let b = as-processor f t in
+    let first = no-hyphen f 0 t in
+    let last = no-hyphen f (length f - 1) t in
+    search and-t depth 6
 
 -- ---- how far it runs
 

@@ -3,7 +3,7 @@ use Prim.Native.Nat.{ℕ, _+_, _-_, _≤_}
 use Prim.Native.Char.{code}
 use mathlib.Core.Path.{_≡_, refl, sym, ap, _∙_, subst}
 use mathlib.Core.Logic.{inl, inr, _↔_}
-use mathlib.Core.Bool.{Bool, true, false, not, _||_}
+use mathlib.Core.Bool.{Bool, true, false, not, _||_, cond}
 use mathlib.Core.List.{List, [], _∷_, _++_, map}
 use native.Mathlib.Omega.{arith}
 use lib.ListN.{length, getD, take, drop, length-append}
@@ -208,7 +208,7 @@ sixOf fs = take 5 fs ++ joinWith (code "-") (drop 5 fs) ∷ []
 main : Meaning → List ℕ
 main m = joinWith (code "-") (sixFields m)
 
-write-some : (m : Meaning) → 1 ≤ length (canonicalOf m)
+pub write-some : (m : Meaning) → 1 ≤ length (canonicalOf m)
 unfolding canonicalOf sixFields joinWith
 write-some m =
     omega (arith, length-join (code ":") (joinWith (code "-") (sixFields m)) (map piece (m .features)), length-append (m .kind) (code "-" ∷ joinWith (code "-") (m .arch ∷ m .vendor ∷ m .system ∷ m .environment ∷ m .processor ∷ [])))
@@ -217,6 +217,11 @@ module _ (m : Meaning) (h : Plain m) where
   main-not-colon : T (every notColon (main m))
   unfolding main sixFields fiveFields
   main-not-colon = join-not-colon (fiveFields m) (m .processor) (h .all-fields) (processor-plain (m .processor) (h .processor-bytes))
+
+  -- kind, triple and processor hold no ':'
+  pub head-not-colon : T (every notColon (joinWith (code "-") (sixFields m)))
+  unfolding main
+  head-not-colon = main-not-colon
 
   cut : splitOn (code ":") (canonicalOf m) ≡ main m ∷ map piece (m .features)
   unfolding canonicalOf main every
@@ -278,7 +283,40 @@ module _ (m : Meaning) (h : Plain m) where
   unfolding valid
   valid-write t = and-t (shaped (canonicalOf m)) (proper (meaning (canonicalOf m))) (shaped-write (parts m t .fits)) (rw meaning-write t)
 
--- ---- reading back, one text for each meaning, sizes
+-- ---- reading back, and one text for each meaning, by any reading
+
+-- A reading says which texts are IDs and what they mean. Its canonical forms are written from the meanings, and read back as they are meant.
+pub record ReadsBack (right : List ℕ → Bool) (mean : List ℕ → Meaning) (form : List ℕ → List ℕ) : Type 0 where
+  pub form-of : (x : List ℕ) → form x ≡ cond (right x) (canonicalOf (mean x)) []
+  pub right-again : (x : List ℕ) → T (right x) → T (right (canonicalOf (mean x)))
+  pub mean-again : (x : List ℕ) → T (right x) → mean (canonicalOf (mean x)) ≡ mean x
+  pub none : form [] ≡ []
+
+module _ (right : List ℕ → Bool) (mean : List ℕ → Meaning) (form : List ℕ → List ℕ) (b : ReadsBack right mean form) where
+  module _ (x : List ℕ) (v : T (right x)) where
+    pub form-is : form x ≡ canonicalOf (mean x)
+    form-is = b .form-of x ∙ ap (λ c. cond c (canonicalOf (mean x)) []) (is-true (right x) v)
+
+    pub form-meaning : mean (form x) ≡ mean x
+    form-meaning = rw form-is (b .mean-again x v)
+
+    pub form-right : T (right (form x))
+    form-right = rw form-is (b .right-again x v)
+
+  pub form-refused : (x : List ℕ) → right x ≡ false → form x ≡ []
+  form-refused x e = b .form-of x ∙ ap (λ c. cond c (canonicalOf (mean x)) []) e
+
+  pub form-again : (x : List ℕ) → form (form x) ≡ form x
+  form-again x = elim (cases (right x)) [
+    | inl e ↦ let v = of-true (right x) e in form-is (form x) (form-right x v) ∙ ap canonicalOf (form-meaning x v) ∙ sym (form-is x v)
+    | inr e ↦ let r = form-refused x e in rw r (b .none)
+  ]
+
+  pub one-form : (x y : List ℕ) → T (right x) → T (right y) → (form x ≡ form y) ↔ (mean x ≡ mean y)
+  one-form x y s t =
+      ((λ e. sym (form-meaning x s) ∙ ap mean e ∙ form-meaning y t), (λ e. form-is x s ∙ ap canonicalOf e ∙ sym (form-is y t)))
+
+-- ---- by the general reading
 
 module _ (x : List ℕ) (v : T (valid x)) where
   pub proper-meaning : T (proper (meaning x))
@@ -291,33 +329,32 @@ module _ (x : List ℕ) (v : T (valid x)) where
   pub read-back : meaning (canonicalOf (meaning x)) ≡ meaning x
   read-back = meaning-write (meaning x) plain-meaning
 
-  pub canon-is : canon x ≡ canonicalOf (meaning x)
-  unfolding canon
-  canon-is = rw (is-true (valid x) v)
+pub canon-back : ReadsBack valid meaning canon
+unfolding canon valid shaped
+canon-back = record {
+  form-of = λ x. refl;
+  right-again = λ x v. valid-write (meaning x) (plain-meaning x v) (proper-meaning x v);
+  mean-again = read-back;
+  none = refl;
+}
 
-  pub canon-meaning : meaning (canon x) ≡ meaning x
-  canon-meaning = rw canon-is read-back
+pub canon-is : (x : List ℕ) → T (valid x) → canon x ≡ canonicalOf (meaning x)
+canon-is = form-is valid meaning canon canon-back
 
-  pub canon-valid : T (valid (canon x))
-  canon-valid = rw canon-is (valid-write (meaning x) plain-meaning proper-meaning)
+pub canon-meaning : (x : List ℕ) → T (valid x) → meaning (canon x) ≡ meaning x
+canon-meaning = form-meaning valid meaning canon canon-back
 
-  pub canon-size : (1 ≤ length (canon x)) × (length (canon x) ≤ 256)
-  canon-size = rw canon-is (write-some (meaning x), leb→le (length (canonicalOf (meaning x))) 256 (parts (meaning x) proper-meaning .fits))
+pub canon-valid : (x : List ℕ) → T (valid x) → T (valid (canon x))
+canon-valid = form-right valid meaning canon canon-back
 
 pub canon-refused : (x : List ℕ) → valid x ≡ false → canon x ≡ []
-unfolding canon
-canon-refused x e = rw e
-
-canon-empty : canon [] ≡ []
-unfolding canon valid shaped
-canon-empty = refl
+canon-refused = form-refused valid meaning canon canon-back
 
 pub canon-again : (x : List ℕ) → canon (canon x) ≡ canon x
-canon-again x = elim (cases (valid x)) [
-  | inl e ↦ let v = of-true (valid x) e in canon-is (canon x) (canon-valid x v) ∙ ap canonicalOf (canon-meaning x v) ∙ sym (canon-is x v)
-  | inr e ↦ let r = canon-refused x e in rw r canon-empty
-]
+canon-again = form-again valid meaning canon canon-back
 
 pub same-canon : (x y : List ℕ) → T (valid x) → T (valid y) → (canon x ≡ canon y) ↔ (meaning x ≡ meaning y)
-same-canon x y s t =
-    ((λ e. sym (canon-meaning x s) ∙ ap meaning e ∙ canon-meaning y t), (λ e. canon-is x s ∙ ap canonicalOf e ∙ sym (canon-is y t)))
+same-canon = one-form valid meaning canon canon-back
+
+pub canon-size : (x : List ℕ) → T (valid x) → (1 ≤ length (canon x)) × (length (canon x) ≤ 256)
+canon-size x v = rw (canon-is x v) (write-some (meaning x), leb→le (length (canonicalOf (meaning x))) 256 (parts (meaning x) (proper-meaning x v) .fits))

@@ -1,20 +1,22 @@
 -- Laws of runs and parts. Assumes nothing.
-use Prim.Native.Nat.{ℕ, suc, _+_, _-_, _≤_, _<_}
+use Prim.Native.Nat.{ℕ, zero, suc, _+_, _-_, _≤_, _<_}
 use mathlib.Core.Path.{_≡_, refl, sym, ap, _∙_, subst}
 use mathlib.Core.Logic.{inl, inr}
-use mathlib.Core.Bool.{Bool, true, false, not, cond}
+use mathlib.Core.Bool.{Bool, true, false, not, _&&_, cond}
 use mathlib.Core.List.{List, [], _∷_, _++_, append-nil}
 use native.Mathlib.Omega.{arith}
 use lib.ListN.{length, getD, take, drop, drop-of-length-le, length-take, length-drop, take-append-drop, List·getD-eq-default}
 use lib.Seq.{take-suc, take-all, drop-cons, drop-drop, getD-drop, length-take-le, take-add}
-use lib.Dec.{T, ltb}
-use borrow.Author.Tests.{eqb-true, eqb-false, eq-eqb, ltb-true, ltb-false, lt-ltb, le-ltb, not-false}
+use lib.Dec.{T, leb, ltb, eqb}
+use borrow.Author.Tests.{eqb-true, eqb-false, eq-eqb, leb-true, le-leb, ltb-true, ltb-false, lt-ltb, le-ltb, not-false}
 use Rattle.wire.specs.Lists.{every}
 use Rattle.wire.specs.Bytes.{empty, bytes}
+use Rattle.wire.specs.First.{first}
 use Rattle.entry_id.specs.Meaning.{piecesOf, namesProcessor}
 use Rattle.entry_id.specs.Canonical.{headOf}
 use Rattle.entry_id.specs.Text.{splitOn, otherThan, notColon}
-use Rattle.wire.proofs.Bools.{and-t, of-true, cases}
+use Rattle.wire.proofs.Bools.{and-both, and-t, of-true, cases}
+use Rattle.wire.proofs.FirstLaws.{first-le, first-before, first-at}
 use Rattle.entry_id.proofs.TextLaws.{every-append, split-last, split-skip}
 use Rattle.wire.proofs.ByteLaws.{same-length}
 use Rattle.entry_id.specs.Scan.{part, Run, endsAt, piecesAt}
@@ -80,17 +82,44 @@ run-on p x a e r h t s = record {
   stop = s .stop;
 }
 
--- a run from the start of what follows a
-pub run-behind : (p : ℕ → Bool) (x : List ℕ) (a r : ℕ) → a ≤ length x → Run p (drop a x) 0 r → Run p x a (a + r)
-unfolding part
-run-behind p x a r h s =
-    let e : r - 0 ≡ a + r - a = omega arith in
-    record {
-      low = omega arith;
-      high = omega (arith, s .high, length-drop a x);
-      passed = subst (λ n. T (every p (take n (drop a x)))) e (s .passed);
-      stop = λ k. ap p (sym (getD-drop a x r 0)) ∙ s .stop (omega (arith, length-drop a x));
-    }
+-- up to the first c from `from` on, no byte is a c
+module _ (x : List ℕ) (from c r : ℕ) (inside : from ≤ length x) (e : r ≡ first (length x) (λ i. leb from i && eqb (getD x i 0) c)) where
+  abbrev here : ℕ → Bool
+  here i = leb from i && eqb (getD x i 0) c
+
+  high : r ≤ length x
+  high = omega (arith, e, first-le (length x) here)
+
+  found : r < length x → (leb from r ≡ true) × (eqb (getD x r 0) c ≡ true)
+  found h = and-both (leb from r) (eqb (getD x r 0) c) (subst (λ k. here k ≡ true) (sym e) (first-at (length x) here (omega (arith, e))))
+
+  not-yet : (i : ℕ) → from ≤ i → i < r → otherThan c (getD x i 0) ≡ true
+  unfolding otherThan
+  not-yet i h k =
+      let f : here i ≡ false = first-before (length x) here i (omega (arith, e)) in
+      ap not (rw (le-leb from i h) at f)
+
+  none-before : (k : ℕ) → from + k ≤ r → T (every (otherThan c) (part x from (from + k)))
+  none-before zero h = let z : from + 0 ≡ from = omega arith in rw z (run-none (otherThan c) x from)
+  none-before (suc k) h =
+      let z : from + k + 1 ≡ from + suc k = omega arith in
+      subst (λ n. T (every (otherThan c) (part x from n))) z
+      (run-more (otherThan c) x from (from + k) (omega arith) (omega (arith, high)) (none-before k (omega arith)) (not-yet (from + k) (omega arith) (omega arith)))
+
+  pub first-run : Run (otherThan c) x from r
+  unfolding otherThan
+  first-run =
+      let low : from ≤ r = elim (cases (ltb r (length x))) [
+        | inl t ↦ leb-true from r (found (ltb-true r (length x) t) .0)
+        | inr f ↦ omega (arith, inside, ltb-false r (length x) f)
+      ] in
+      let z : from + (r - from) ≡ r = omega arith in
+      record {
+        low = low;
+        high = high;
+        passed = subst (λ n. T (every (otherThan c) (part x from n))) z (none-before (r - from) (omega arith));
+        stop = λ h. ap not (found h .1);
+      }
 
 -- a run of bytes other than c, from a up to r, is the first piece of the text from a on
 pub cut-run : (c : ℕ) (x : List ℕ) (a r : ℕ) → Run (otherThan c) x a r → splitOn c (drop a x) ≡ part x a r ∷ cond (ltb r (length x)) (splitOn c (drop (suc r) x)) []

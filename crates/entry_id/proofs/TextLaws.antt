@@ -1,10 +1,10 @@
 -- Laws of texts: every byte, cutting and joining. Assumes nothing.
 use Prim.Native.Nat.{ℕ, _+_}
 use mathlib.Core.Path.{_≡_, refl, sym, ap, _∙_, subst}
-use mathlib.Core.Bool.{Bool, true, false, not}
+use mathlib.Core.Bool.{Bool, true, false, not, _||_}
 use mathlib.Core.List.{List, [], _∷_, _++_}
 use lib.Dec.{T, eqb, eqb→eq, eqb-refl}
-use Rattle.wire.specs.Lists.{every}
+use Rattle.wire.specs.Lists.{any, every}
 use Rattle.wire.proofs.Bools.{and-l, and-r, and-t, is-true, is-false, of-true, cond-ind, cond-case}
 use Rattle.entry_id.specs.Text.{onFirst, splitOn, joinWith, otherThan}
 
@@ -25,10 +25,19 @@ unfolding every
 every-start p [] b t = tt
 every-start p (x ∷ a) b t = and-t (p x) (every p a) (and-l (p x) (every p (a ++ b)) t) (every-start p a b (and-r (p x) (every p (a ++ b)) t))
 
+pub any-append : {A : Type 0} (p : A → Bool) (a b : List A) → any p (a ++ b) ≡ (any p a || any p b)
+unfolding any
+any-append p [] b = refl
+any-append p (x ∷ a) b = ap (λ c. p x || c) (any-append p a b) ∙ assoc (p x) (any p a) (any p b)
+  where
+    assoc : (a b c : Bool) → (a || (b || c)) ≡ ((a || b) || c)
+    assoc true b c = refl
+    assoc false b c = refl
+
 -- ---- cutting and joining
 
 module _ (c : ℕ) (p : ℕ → Bool) (no : T (p c) → ⊥) where
-  misses : (x : ℕ) → T (p x) → eqb x c ≡ false
+  pub misses : (x : ℕ) → T (p x) → eqb x c ≡ false
   misses x t = is-false (eqb x c) (λ e. no (subst (λ (y : ℕ). T (p y)) (eqb→eq x c e) t))
 
   pub avoids : (x : ℕ) → T (p x) → T (otherThan c x)

@@ -1,7 +1,7 @@
 -- The theorem on entry IDs. Assumes nothing.
 use mathlib.Core.Path.{_≡_, refl, sym, ap, _∙_}
 use mathlib.Core.Bool.{Bool}
-use mathlib.Core.List.{List, _∷_, _++_, map}
+use mathlib.Core.List.{List, _∷_, map}
 use native.Mathlib.Omega.{arith}
 use lib.ListN.{length}
 use Rattle.wire.specs.Lists.{every}
@@ -12,11 +12,12 @@ use Rattle.wire.specs.Order.{distinctBy, risingBy, sortBy}
 use Rattle.wire.proofs.Bools.{bool-ext}
 use Rattle.entry_id.specs.Meaning.{byName, Meaning, feature, fieldsOf, piecesOf, fifthIsProcessor, meaning, meaningOf, fieldByte, nameByte}
 use Rattle.entry_id.specs.Compare.{comparedKind, comparedAs, sameTarget, compatible, sameMeaning, mixed}
-use Rattle.entry_id.specs.Theorems.{EntryIds, hipId, hipv4Id, OneKind}
+use Rattle.entry_id.specs.Theorems.{EntryIds, hipId, hipv4Id, OneKind, ProfileIds}
 use Rattle.entry_id.proofs.ReadBack.{canon-meaning, same-canon, canon-valid, canon-size, canon-again, canon-refused}
 use Rattle.entry_id.proofs.FeatureLaws.{features-stated, sameMeaning-eq, eq-sameMeaning, one-entry}
 use Rattle.entry_id.proofs.CompareLaws.{names-sets}
 use Rattle.entry_id.proofs.KindLaws.{kinds-apart, meaning-behind}
+use Rattle.entry_id.proofs.ProfileLaws.{profile-meaning, same-profile, profile-form-valid, profile-again, profile-refused, as-before, profile-general, profile-form-meaning, profile-stricter, from-general, same-stays, mixed-stays, compatible-stays}
 use Rattle.entry_id.proofs.CanonicalLaws.{compatible-canonical, mixed-canonical, same-canonical}
 
 stated-once : (x : List ℕ) → risingBy byName (meaning x .features) ≡ distinctBy byName (map feature (piecesOf x))
@@ -41,6 +42,23 @@ entryIds = record {
   compatible-text = compatible-canonical;
   same-text = same-canonical;
   mixed-text = mixed-canonical;
+}
+
+pub profileIds : ProfileIds
+profileIds = record {
+  read-back = profile-meaning;
+  one-form = same-profile;
+  form-valid = profile-form-valid;
+  form-again = profile-again;
+  form-none = profile-refused;
+  as-before = as-before;
+  general = profile-general;
+  general-meaning = profile-form-meaning;
+  stricter = profile-stricter;
+  from-general = from-general;
+  same-stays = same-stays;
+  mixed-stays = mixed-stays;
+  compatible-stays = compatible-stays;
 }
 
 -- ---- hip and hipv4

@@ -13,9 +13,13 @@ use Rattle.entry_id.specs.Text.{splitOn}
 use Rattle.entry_id.specs.Meaning.{fieldsOf, piecesOf, canon}
 use Rattle.entry_id.specs.Compare.{comparedKind}
 
--- the canonical form where it fits `room` bytes, else nothing; room for 256 bytes is enough for every ID
+-- a form where it fits `room` bytes, else nothing; room for 256 bytes is enough for every ID
+unfoldable pub inRoom : ℕ → List ℕ → List ℕ
+inRoom room c = cond (leb (length c) room) c []
+
+-- the canonical form where it fits
 unfoldable pub canonicalIn : ℕ → List ℕ → List ℕ
-canonicalIn room x = cond (leb (length (canon x)) room) (canon x) []
+canonicalIn room x = inRoom room (canon x)
 
 -- the text before its first ':': of a canonical form kind, triple and processor
 unfoldable pub headOf : List ℕ → List ℕ

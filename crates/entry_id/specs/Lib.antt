@@ -1,8 +1,11 @@
 pub mod Text
 pub mod Meaning
+pub mod Processors
+pub mod Profile
 pub mod Compare
 pub mod Canonical
 pub mod IdRules
+pub mod Reads
 pub mod Rules
 pub mod Theorems
 pub mod Examples

@@ -3,7 +3,7 @@ use Prim.Native.Nat.{ℕ, _≤_}
 use Prim.Native.Char.{code}
 use mathlib.Core.Path.{_≡_}
 use mathlib.Core.Logic.{_↔_}
-use mathlib.Core.Bool.{Bool, false, not, _&&_, _||_}
+use mathlib.Core.Bool.{Bool, true, false, not, _&&_, _||_}
 use mathlib.Core.List.{List, [], _∷_, _++_, map, List·Memᴰ}
 use lib.ListN.{length}
 use lib.Dec.{T}
@@ -12,6 +12,8 @@ use Rattle.wire.specs.Bytes.{bytes, same}
 use Rattle.wire.specs.Order.{risingBy, distinctBy}
 use Rattle.entry_id.specs.Text.{joinWith, notColon}
 use Rattle.entry_id.specs.Meaning.{byName, Feature, Meaning, piecesOf, namesProcessor, feature, meaning, fieldByte, valid, canon}
+use Rattle.entry_id.specs.Processors.{Processor, processors, stands, soundTable}
+use Rattle.entry_id.specs.Profile.{ours, primaryOf, profileMeaning, profileValid, profileCanon}
 use Rattle.entry_id.specs.Compare.{comparedKind, comparedAs, compatible, sameMeaning, mixed, sameNames}
 use Rattle.entry_id.specs.Canonical.{headOf, compatibleText, sameText, mixedText}
 
@@ -80,3 +82,35 @@ pub record ProcessorRuns : Type 0 where
       → let m = meaning (joinWith (code "-") (k ∷ a ∷ v ∷ s ∷ e ∷ p ∷ []) ++ r) in (m .environment ≡ e) × (m .processor ≡ p)
   -- so no environment begins like a processor
   pub environment : (x : List ℕ) → namesProcessor (meaning x .environment) ≡ false
+
+-- "Prove over the table as a whole that no name stands on two rows."
+pub record ProcessorTable : Type 0 where
+  -- one test over the whole table
+  pub sound : soundTable processors ≡ true
+  -- so of any two rows, r before s, no name stands on both
+  pub once : (a b c : List Processor) (r s : Processor) (n : List ℕ) → processors ≡ a ++ r ∷ b ++ s ∷ c → T (stands n r) → T (stands n s) → ⊥
+  -- every name on a row means the primary of that row, and a primary is its own
+  pub means : (a b : List Processor) (r : Processor) (n : List ℕ) → processors ≡ a ++ r ∷ b → T (stands n r) → primaryOf n ≡ r .primary
+  pub primary-stays : (n : List ℕ) → primaryOf (primaryOf n) ≡ primaryOf n
+
+-- entry IDs by the profile's rules
+pub record ProfileIds : Type 0 where
+  -- reading the canonical form gives the meaning back; equal canonical forms exactly when equal meanings
+  pub read-back : (x : List ℕ) → T (profileValid x) → profileMeaning (profileCanon x) ≡ profileMeaning x
+  pub one-form : (x y : List ℕ) → T (profileValid x) → T (profileValid y) → (profileCanon x ≡ profileCanon y) ↔ (profileMeaning x ≡ profileMeaning y)
+  -- the canonical form of an ID is an ID; every canonical form is its own; a text that is no ID has none
+  pub form-valid : (x : List ℕ) → T (profileValid x) → T (profileValid (profileCanon x))
+  pub form-again : (x : List ℕ) → profileCanon (profileCanon x) ≡ profileCanon x
+  pub form-none : (x : List ℕ) → profileValid x ≡ false → profileCanon x ≡ []
+  -- "All other IDs read as before."
+  pub as-before : (x : List ℕ) → ours (meaning x) ≡ false → (profileMeaning x ≡ meaning x) × (profileValid x ≡ valid x) × (profileCanon x ≡ canon x)
+  -- the canonical form is one by the general rules, and means there what the profile gives
+  pub general : (x : List ℕ) → canon (profileCanon x) ≡ profileCanon x
+  pub general-meaning : (x : List ℕ) → T (profileValid x) → meaning (profileCanon x) ≡ profileMeaning x
+  -- "a stricter reading": an ID by the profile's rules is one by the general rules, and has the profile's form that its general form has
+  pub stricter : (x : List ℕ) → T (profileValid x) → T (valid x)
+  pub from-general : (x : List ℕ) → profileCanon x ≡ profileCanon (canon x)
+  -- what the tests find of two texts in general they find by the profile too: it changes the processor alone, and equal ones have equal primaries
+  pub same-stays : (x y : List ℕ) → T (sameMeaning (meaning x) (meaning y)) → T (sameMeaning (profileMeaning x) (profileMeaning y))
+  pub mixed-stays : (x y : List ℕ) → T (mixed (meaning x) (meaning y)) → T (mixed (profileMeaning x) (profileMeaning y))
+  pub compatible-stays : (e d : List ℕ) → T (compatible (meaning e) (meaning d)) → T (compatible (profileMeaning e) (profileMeaning d))

@@ -6,7 +6,7 @@ ghost use lib.ListN.{length, getD, take, drop, set};
 ghost use Rattle.wire.specs.Bytes.{overwrite};
 ghost use Rattle.wire.specs.Order.{insertBy, sortBy};
 ghost use Rattle.wire.specs.Lists.{total, tab};
-ghost use Rattle.entry_id.specs.Rules.{idRules};
+ghost use Rattle.entry_id.specs.Rules.{idRules, rulesOf};
 ghost use Rattle.bundle.specs.Records.{noRecord, recordAt};
 ghost use Rattle.bundle_reader.specs.Examined.{text};
 ghost use Rattle.bundle.specs.Layout.{rowBytes, table, images, packedEnd, packedLength, encode};
@@ -15,6 +15,7 @@ ghost use Rattle.bundle.specs.Writer.{write, writtenTo};
 ghost use Rattle.normal_form.specs.Code.{inOrder, upTo, Ordered, Placed, Measured, sizeOf, idOf, rowAfter, gathered};
 use bundle::EntryRecord;
 use bundle::Written;
+use entry_id::Reading;
 
 // ---- the order of the entries
 
@@ -248,15 +249,16 @@ fn write_entries(
 // ---- normalising
 
 fn normalise_in(
+    reading: Reading,
     bundle: &[u8],
     texts: &mut [u8; 16384],
     lens: &mut [usize; 64],
     out: &mut [u8],
 ) -> Written
-    ensures { λ r. ⌜ r ≡ normalise idRules (now (bundle .entry)) (length (now (out .entry))) ⌝ }
-    ensures { λ _. ⌜ now (out .exit) ≡ normalised idRules (now (bundle .entry)) (now (out .entry)) ⌝ }
+    ensures { λ r. ⌜ r ≡ normalise (rulesOf reading) (now (bundle .entry)) (length (now (out .entry))) ⌝ }
+    ensures { λ _. ⌜ now (out .exit) ≡ normalised (rulesOf reading) (now (bundle .entry)) (now (out .entry)) ⌝ }
 {
-    let e = bundle_reader::examine(bundle, texts, lens);
+    let e = bundle_reader::examine(reading, bundle, texts, lens);
     let number = e.number;
     if 0 < number {
         return refused(number, e.place);
@@ -267,14 +269,22 @@ fn normalise_in(
     write_entries(bundle, rows, texts, lens, n, order, out)
 }
 
-// The normal form of a bundle, over `out`.
+// The normal form of a bundle by a reading of its IDs, over `out`.
+pub fn normalise_by(reading: Reading, bundle: &[u8], out: &mut [u8]) -> Written
+    ensures { λ r. ⌜ r ≡ normalise (rulesOf reading) (now (bundle .entry)) (length (now (out .entry))) ⌝ }
+    ensures { λ _. ⌜ now (out .exit) ≡ normalised (rulesOf reading) (now (bundle .entry)) (now (out .entry)) ⌝ }
+{
+    let mut texts = [0u8; 16384];
+    let mut lens = [0usize; 64];
+    normalise_in(reading, bundle, &mut texts, &mut lens, out)
+}
+
+// The normal form of a bundle by the general reading, over `out`.
 pub fn normalise(bundle: &[u8], out: &mut [u8]) -> Written
     ensures { λ r. ⌜ r ≡ normalise idRules (now (bundle .entry)) (length (now (out .entry))) ⌝ }
     ensures { λ _. ⌜ now (out .exit) ≡ normalised idRules (now (bundle .entry)) (now (out .entry)) ⌝ }
 {
-    let mut texts = [0u8; 16384];
-    let mut lens = [0usize; 64];
-    normalise_in(bundle, &mut texts, &mut lens, out)
+    normalise_by(Reading::General, bundle, out)
 }
 
 // ---- the bundle writer

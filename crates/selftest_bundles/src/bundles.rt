@@ -1,11 +1,13 @@
 // Bundles: the check, the pick and the normal form.
 ghost use mathlib.Core.Path.{_≡_};
 ghost use lib.ListN.{length};
-ghost use Rattle.entry_id.specs.Rules.{idRules};
+ghost use Rattle.entry_id.specs.Rules.{idRules, rulesOf};
+ghost use Rattle.entry_id.specs.declared.Reading.the-variants.{General};
 ghost use Rattle.bundle.specs.Check.{check};
 ghost use Rattle.bundle.specs.Pick.{pick};
 ghost use Rattle.bundle.specs.EntryAt.{entryAt};
 ghost use Rattle.bundle.specs.Normal.{normalise, normalised};
+use entry_id::Reading;
 
 // "Magic and eight zero bytes"
 const NO_ENTRIES: [u8; 32] = *b"__CLANG_OFFLOAD_BUNDLE__\0\0\0\0\0\0\0\0";
@@ -48,11 +50,39 @@ const TWO_KINDS: [u8; 145] = *b"__CLANG_OFFLOAD_BUNDLE__\x02\0\0\0\0\0\0\0\
     \x8f\0\0\0\0\0\0\0\x02\0\0\0\0\0\0\0\x1e\0\0\0\0\0\0\0hipv4-amdgcn-amd-amdhsa-gfx906\
     abcd";
 
-fn expect_check(bundle: &[u8], number: usize, place: usize, count: usize)
-    requires { ⌜ check idRules (now bundle) ≡ record { number = number; place = place; count = count } ⌝ }
+// One card under both of its names.
+const CARD_TWICE: [u8; 135] = *b"__CLANG_OFFLOAD_BUNDLE__\x02\0\0\0\0\0\0\0\
+    \x87\0\0\0\0\0\0\0\0\0\0\0\0\0\0\0\x1b\0\0\0\0\0\0\0hip-amdgcn-amd-amdhsa--fiji\
+    \x87\0\0\0\0\0\0\0\0\0\0\0\0\0\0\0\x1c\0\0\0\0\0\0\0hip-amdgcn-amd-amdhsa-gfx803";
+
+// Another card under both of its names, the second with a feature.
+const CARD_MIXED: [u8; 145] = *b"__CLANG_OFFLOAD_BUNDLE__\x02\0\0\0\0\0\0\0\
+    \x91\0\0\0\0\0\0\0\0\0\0\0\0\0\0\0\x1e\0\0\0\0\0\0\0hip-amdgcn-amd-amdhsa--carrizo\
+    \x91\0\0\0\0\0\0\0\0\0\0\0\0\0\0\0\x23\0\0\0\0\0\0\0hip-amdgcn-amd-amdhsa-gfx801:xnack+";
+
+// A known processor and an unknown one.
+const UNKNOWN_CARD: [u8; 136] = *b"__CLANG_OFFLOAD_BUNDLE__\x02\0\0\0\0\0\0\0\
+    \x88\0\0\0\0\0\0\0\0\0\0\0\0\0\0\0\x1c\0\0\0\0\0\0\0hip-amdgcn-amd-amdhsa-gfx803\
+    \x88\0\0\0\0\0\0\0\0\0\0\0\0\0\0\0\x1c\0\0\0\0\0\0\0hip-amdgcn-amd-amdhsa-gfx999";
+
+// A card under an alternative name, and another under its primary.
+const TWO_NAMES: [u8; 142] = *b"__CLANG_OFFLOAD_BUNDLE__\x02\0\0\0\0\0\0\0\
+    \x89\0\0\0\0\0\0\0\x02\0\0\0\0\0\0\0\x1d\0\0\0\0\0\0\0hip-amdgcn-amd-amdhsa--tahiti\
+    \x8b\0\0\0\0\0\0\0\x03\0\0\0\0\0\0\0\x1c\0\0\0\0\0\0\0hip-amdgcn-amd-amdhsa-gfx803\
+    abcde";
+
+fn expect_check_by(reading: Reading, bundle: &[u8], number: usize, place: usize, count: usize)
+    requires { ⌜ check (rulesOf reading) (now bundle) ≡ record { number = number; place = place; count = count } ⌝ }
 {
-    let r = bundle_reader::check(bundle);
+    let r = bundle_reader::check_by(reading, bundle);
     check::expect((r.number == number) & (r.place == place) & (r.count == count));
+}
+
+// The check by the general reading.
+fn expect_check(bundle: &[u8], number: usize, place: usize, count: usize)
+    requires { ⌜ check (rulesOf General) (now bundle) ≡ record { number = number; place = place; count = count } ⌝ }
+{
+    expect_check_by(Reading::General, bundle, number, place, count);
 }
 
 // MAGIC and COUNT.
@@ -284,6 +314,39 @@ pub(crate) fn kinds() {
     expect_check(&TWO_KINDS, 0, 0, 2);
 }
 
+// TWICE, MIXED and ID by the profile, of bundles that the general reading accepts.
+pub(crate) fn cards() {
+    expect_check_by(Reading::Profile, &CARD_TWICE, 7, 1, 0);
+    expect_check(&CARD_TWICE, 0, 0, 2);
+    expect_check_by(Reading::Profile, &CARD_MIXED, 8, 1, 0);
+    expect_check(&CARD_MIXED, 0, 0, 2);
+    expect_check_by(Reading::Profile, &UNKNOWN_CARD, 5, 1, 0);
+    expect_check(&UNKNOWN_CARD, 0, 0, 2);
+}
+
+fn expect_pick_by(
+    reading: Reading,
+    bundle: &[u8],
+    device: &[u8],
+    number: usize,
+    place: usize,
+    index: usize,
+    position: u64,
+    size: u64,
+)
+    requires { ⌜ pick (rulesOf reading) (now bundle) (now device) ≡ record { number = number; place = place; index = index; position = position; size = size } ⌝ }
+{
+    let r = bundle_reader::pick_by(reading, bundle, device);
+    check::expect(
+        (r.number == number)
+            & (r.place == place)
+            & (r.index == index)
+            & (r.position == position)
+            & (r.size == size),
+    );
+}
+
+// The pick by the general reading.
 fn expect_pick(
     bundle: &[u8],
     device: &[u8],
@@ -293,15 +356,17 @@ fn expect_pick(
     position: u64,
     size: u64,
 )
-    requires { ⌜ pick idRules (now bundle) (now device) ≡ record { number = number; place = place; index = index; position = position; size = size } ⌝ }
+    requires { ⌜ pick (rulesOf General) (now bundle) (now device) ≡ record { number = number; place = place; index = index; position = position; size = size } ⌝ }
 {
-    let r = bundle_reader::pick(bundle, device);
-    check::expect(
-        (r.number == number)
-            & (r.place == place)
-            & (r.index == index)
-            & (r.position == position)
-            & (r.size == size),
+    expect_pick_by(
+        Reading::General,
+        bundle,
+        device,
+        number,
+        place,
+        index,
+        position,
+        size,
     );
 }
 
@@ -387,6 +452,47 @@ pub(crate) fn kinds_picked() {
     );
 }
 
+// Picked by the profile under another name of the card; NONE by the general reading.
+pub(crate) fn cards_picked() {
+    expect_pick_by(
+        Reading::Profile,
+        &TWO_NAMES,
+        b"hip-amdgcn-amd-amdhsa--fiji",
+        0,
+        0,
+        1,
+        139,
+        3,
+    );
+    expect_pick(&TWO_NAMES, b"hip-amdgcn-amd-amdhsa--fiji", 10, 0, 0, 0, 0);
+    expect_pick_by(
+        Reading::Profile,
+        &TWO_NAMES,
+        b"hip-amdgcn-amd-amdhsa-gfx600",
+        0,
+        0,
+        0,
+        137,
+        2,
+    );
+    expect_pick(&TWO_NAMES, b"hip-amdgcn-amd-amdhsa-gfx600", 10, 0, 0, 0, 0);
+}
+
+// An unknown processor in a device name: QUERY by the profile, NONE by the general reading.
+pub(crate) fn cards_not_asked() {
+    expect_pick_by(
+        Reading::Profile,
+        &TWO_NAMES,
+        b"hip-amdgcn-amd-amdhsa-gfx999",
+        9,
+        0,
+        0,
+        0,
+        0,
+    );
+    expect_pick(&TWO_NAMES, b"hip-amdgcn-amd-amdhsa-gfx999", 10, 0, 0, 0, 0);
+}
+
 fn expect_entry(
     bundle: &[u8],
     index: usize,
@@ -425,6 +531,23 @@ pub(crate) fn no_entries() {
 }
 
 // What normalising into `out` returns, and what it leaves there.
+fn expect_normalise_by(
+    reading: Reading,
+    bundle: &[u8],
+    out: &mut [u8],
+    number: usize,
+    place: usize,
+    written: usize,
+    after: &[u8],
+)
+    requires { ⌜ (normalise (rulesOf reading) (now bundle) (length (now out)) ≡ record { number = number; place = place; length = written }) × (normalised (rulesOf reading) (now bundle) (now out) ≡ now after) ⌝ }
+{
+    let r = normal_form::normalise_by(reading, bundle, out);
+    check::expect((r.number == number) & (r.place == place) & (r.length == written));
+    check::expect(check::same(out, after));
+}
+
+// The same by the general reading.
 fn expect_normalise(
     bundle: &[u8],
     out: &mut [u8],
@@ -433,11 +556,9 @@ fn expect_normalise(
     written: usize,
     after: &[u8],
 )
-    requires { ⌜ (normalise idRules (now bundle) (length (now out)) ≡ record { number = number; place = place; length = written }) × (normalised idRules (now bundle) (now out) ≡ now after) ⌝ }
+    requires { ⌜ (normalise (rulesOf General) (now bundle) (length (now out)) ≡ record { number = number; place = place; length = written }) × (normalised (rulesOf General) (now bundle) (now out) ≡ now after) ⌝ }
 {
-    let r = normal_form::normalise(bundle, out);
-    check::expect((r.number == number) & (r.place == place) & (r.length == written));
-    check::expect(check::same(out, after));
+    expect_normalise_by(Reading::General, bundle, out, number, place, written, after);
 }
 
 // A bundle that is its own normal form; a refusal of the check.
@@ -503,5 +624,42 @@ pub(crate) fn kinds_normal() {
         \x8f\0\0\0\0\0\0\0\x02\0\0\0\0\0\0\0\x1f\0\0\0\0\0\0\0hipv4-amdgcn-amd-amdhsa--gfx906\
         \x91\0\0\0\0\0\0\0\x02\0\0\0\0\0\0\0\x20\0\0\0\0\0\0\0openmp-amdgcn-amd-amdhsa--gfx906\
         cdab",
+    );
+}
+
+// The profile's normal form writes the primary names, and goes by their order.
+pub(crate) fn names_normal() {
+    expect_normalise_by(
+        Reading::Profile,
+        &TWO_NAMES,
+        &mut [b'.'; 143],
+        0,
+        0,
+        143,
+        b"__CLANG_OFFLOAD_BUNDLE__\x02\0\0\0\0\0\0\0\
+        \x8a\0\0\0\0\0\0\0\x02\0\0\0\0\0\0\0\x1d\0\0\0\0\0\0\0hip-amdgcn-amd-amdhsa--gfx600\
+        \x8c\0\0\0\0\0\0\0\x03\0\0\0\0\0\0\0\x1d\0\0\0\0\0\0\0hip-amdgcn-amd-amdhsa--gfx803\
+        abcde",
+    );
+    expect_normalise(
+        &TWO_NAMES,
+        &mut [b'.'; 143],
+        0,
+        0,
+        143,
+        b"__CLANG_OFFLOAD_BUNDLE__\x02\0\0\0\0\0\0\0\
+        \x8a\0\0\0\0\0\0\0\x03\0\0\0\0\0\0\0\x1d\0\0\0\0\0\0\0hip-amdgcn-amd-amdhsa--gfx803\
+        \x8d\0\0\0\0\0\0\0\x02\0\0\0\0\0\0\0\x1d\0\0\0\0\0\0\0hip-amdgcn-amd-amdhsa--tahiti\
+        cdeab",
+    );
+    // refused by the check
+    expect_normalise_by(
+        Reading::Profile,
+        &CARD_TWICE,
+        &mut [b'.'; 138],
+        7,
+        1,
+        0,
+        &[b'.'; 138],
     );
 }

@@ -13,11 +13,14 @@ pub fn run() {
     bundles::overlaps_in_turn();
     bundles::meanings();
     bundles::kinds();
+    bundles::cards();
     bundles::picks();
     bundles::more_picks();
     bundles::not_asked();
     bundles::not_found();
     bundles::kinds_picked();
+    bundles::cards_picked();
+    bundles::cards_not_asked();
     bundles::entries();
     bundles::no_entries();
     bundles::no_entries_normal();
@@ -26,6 +29,7 @@ pub fn run() {
     bundles::cards_normal();
     bundles::cards_again();
     bundles::kinds_normal();
+    bundles::names_normal();
     bundle_writer::written();
     bundle_writer::written_before();
     bundle_writer::no_room();

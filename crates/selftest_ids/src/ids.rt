@@ -1,16 +1,32 @@
 // Entry IDs: canonical forms, and how two of them stand to each other.
 ghost use mathlib.Core.Path.{_≡_};
 ghost use mathlib.Core.List.{_++_};
-ghost use lib.ListN.{length, drop};
-ghost use Rattle.entry_id.specs.Canonical.{canonicalIn, compatibleText, sameText, mixedText};
+ghost use lib.ListN.{length, drop, replicate};
+ghost use Rattle.entry_id.specs.Canonical.{compatibleText, sameText, mixedText};
+ghost use Rattle.entry_id.specs.Rules.{formIn};
+ghost use Rattle.entry_id.specs.declared.Reading.the-variants.{General, Profile};
+use entry_id::Reading;
 
-// The length of an ID's canonical form, and what making it leaves in `out`. Length 0: it is no ID, or its form has no room.
-fn expect_form(id: &[u8], out: &mut [u8], len: usize, after: &[u8])
-    requires { ⌜ (length (canonicalIn (length (now out)) (now id)) ≡ len) × (canonicalIn (length (now out)) (now id) ++ drop len (now out) ≡ now after) ⌝ }
+// An ID of 255 bytes with an alternative name.
+const LONG: [u8; 255] =
+    *b"hip-amdgcn-vvvvvvvvvvvvvvvvvvvvvvvvvvvvvvvvvvvvvvvvvvvvvvvvvvvvvvvvvvvvvvvvvvvvvvvvvvvvvvvvvvvvv\
+    vvvvvvvvvvvvvvvvvvvvvvvvvvvvvvvvvvvvvvvvvvvvvvvvvvvvvvvvvvvvvvvvvvvvvvvvvvvvvvvvvvvvvvvvvvvvvvvv\
+    vvvvvvvvvvvvvvvvvvvvvvvvvvvvvvvvvvvvvvvvvvvvvvvvvv-amdhsa--fiji";
+
+// The length of an ID's canonical form by a reading, and what making it leaves in `out`. Length 0: it is no ID, or its form has no room.
+fn expect_form_by(reading: Reading, id: &[u8], out: &mut [u8], len: usize, after: &[u8])
+    requires { ⌜ (length (formIn reading (length (now out)) (now id)) ≡ len) × (formIn reading (length (now out)) (now id) ++ drop len (now out) ≡ now after) ⌝ }
 {
-    let made = canonical_form::canonical(id, out);
+    let made = profile_form::canonical_by(reading, id, out);
     check::expect(made.length == len);
     check::expect(check::same(out, after));
+}
+
+// The same by the general reading.
+fn expect_form(id: &[u8], out: &mut [u8], len: usize, after: &[u8])
+    requires { ⌜ (length (formIn General (length (now out)) (now id)) ≡ len) × (formIn General (length (now out)) (now id) ++ drop len (now out) ≡ now after) ⌝ }
+{
+    expect_form_by(Reading::General, id, out, len, after);
 }
 
 pub(crate) fn host_forms() {
@@ -90,6 +106,133 @@ pub(crate) fn no_features() {
 pub(crate) fn no_kinds() {
     expect_form(b"cuda-a-b-c", &mut [b'.'; 13], 0, &[b'.'; 13]);
     expect_form(b"", &mut [b'.'; 1], 0, b".");
+}
+
+// The same by both readings, each in an output of 48 dots.
+fn expect_forms(id: &[u8], len: usize, general: &[u8], profile_len: usize, profile: &[u8])
+    requires { ⌜ (length (formIn General 48 (now id)) ≡ len) × (formIn General 48 (now id) ++ drop len (replicate 48 46) ≡ now general) ⌝ }
+    requires { ⌜ (length (formIn Profile 48 (now id)) ≡ «profile_len») × (formIn Profile 48 (now id) ++ drop «profile_len» (replicate 48 46) ≡ now profile) ⌝ }
+{
+    expect_form_by(Reading::General, id, &mut [b'.'; 48], len, general);
+    expect_form_by(Reading::Profile, id, &mut [b'.'; 48], profile_len, profile);
+}
+
+// "An alternative name means its primary": on the first row; of four bytes and of nine.
+pub(crate) fn alternative_forms() {
+    expect_forms(
+        b"hipv4-amdgcn-amd-amdhsa--tahiti",
+        31,
+        b"hipv4-amdgcn-amd-amdhsa--tahiti.................",
+        31,
+        b"hipv4-amdgcn-amd-amdhsa--gfx600.................",
+    );
+    expect_forms(
+        b"hip-amdgcn-amd-amdhsa--fiji",
+        27,
+        b"hip-amdgcn-amd-amdhsa--fiji.....................",
+        29,
+        b"hip-amdgcn-amd-amdhsa--gfx803...................",
+    );
+    expect_forms(
+        b"openmp-amdgcn-amd-amdhsa--polaris10",
+        35,
+        b"openmp-amdgcn-amd-amdhsa--polaris10.............",
+        32,
+        b"openmp-amdgcn-amd-amdhsa--gfx803................",
+    );
+    // room for the ID as it is spelled, and a byte short for its form
+    expect_form_by(
+        Reading::Profile,
+        b"hip-amdgcn-amd-amdhsa--fiji",
+        &mut [b'.'; 28],
+        0,
+        &[b'.'; 28],
+    );
+}
+
+// "An unknown processor or an unsupported feature (any other name too)": refused by the profile.
+pub(crate) fn unknown_forms() {
+    expect_forms(
+        b"hip-amdgcn-amd-amdhsa-gfx999",
+        29,
+        b"hip-amdgcn-amd-amdhsa--gfx999...................",
+        0,
+        &[b'.'; 48],
+    );
+    expect_forms(
+        b"hip-amdgcn-amd-amdhsa-gfx900:sramecc+",
+        38,
+        b"hip-amdgcn-amd-amdhsa--gfx900:sramecc+..........",
+        0,
+        &[b'.'; 48],
+    );
+    expect_forms(
+        b"hip-amdgcn-amd-amdhsa-gfx90a:foo+",
+        34,
+        b"hip-amdgcn-amd-amdhsa--gfx90a:foo+..............",
+        0,
+        &[b'.'; 48],
+    );
+}
+
+// Primary names: on the last row; with supported features.
+pub(crate) fn primary_forms() {
+    expect_forms(
+        b"hip-amdgcn-amd-amdhsa-gfx12-generic",
+        36,
+        b"hip-amdgcn-amd-amdhsa--gfx12-generic............",
+        36,
+        b"hip-amdgcn-amd-amdhsa--gfx12-generic............",
+    );
+    expect_forms(
+        b"hip-amdgcn-amd-amdhsa-gfx90a:xnack+:sramecc-",
+        45,
+        b"hip-amdgcn-amd-amdhsa--gfx90a:sramecc-:xnack+...",
+        45,
+        b"hip-amdgcn-amd-amdhsa--gfx90a:sramecc-:xnack+...",
+    );
+}
+
+// "All other IDs read as before": another kind; another arch; an alternative name that is the environment.
+pub(crate) fn other_forms() {
+    expect_forms(
+        b"host-amdgcn-amd-amdhsa--fiji",
+        28,
+        b"host-amdgcn-amd-amdhsa--fiji....................",
+        28,
+        b"host-amdgcn-amd-amdhsa--fiji....................",
+    );
+    expect_forms(
+        b"hip-amdgcn1-amd-amdhsa--fiji",
+        28,
+        b"hip-amdgcn1-amd-amdhsa--fiji....................",
+        28,
+        b"hip-amdgcn1-amd-amdhsa--fiji....................",
+    );
+    expect_forms(
+        b"hip-amdgcn-amd-amdhsa-tonga",
+        28,
+        b"hip-amdgcn-amd-amdhsa-tonga-....................",
+        28,
+        b"hip-amdgcn-amd-amdhsa-tonga-....................",
+    );
+}
+
+// "the 256-byte limit is on the form written with the primary": a form of 256 bytes, and one of 257 that the general reading has in 255.
+pub(crate) fn long_forms() {
+    expect_form_by(
+        Reading::Profile,
+        b"hip-amdgcn-vvvvvvvvvvvvvvvvvvvvvvvvvvvvvvvvvvvvvvvvvvvvvvvvvvvvvvvvvvvvvvvvvvvvvvvvvvvvvvvvvvvvv\
+        vvvvvvvvvvvvvvvvvvvvvvvvvvvvvvvvvvvvvvvvvvvvvvvvvvvvvvvvvvvvvvvvvvvvvvvvvvvvvvvvvvvvvvvvvvvvvvvv\
+        vvvvvvvvvvvvvvvvvvvvvvvvvvvvvvvvvvvvvvvvvvvvvvvvv-amdhsa--fiji",
+        &mut [b'.'; 256],
+        256,
+        b"hip-amdgcn-vvvvvvvvvvvvvvvvvvvvvvvvvvvvvvvvvvvvvvvvvvvvvvvvvvvvvvvvvvvvvvvvvvvvvvvvvvvvvvvvvvvvv\
+        vvvvvvvvvvvvvvvvvvvvvvvvvvvvvvvvvvvvvvvvvvvvvvvvvvvvvvvvvvvvvvvvvvvvvvvvvvvvvvvvvvvvvvvvvvvvvvvv\
+        vvvvvvvvvvvvvvvvvvvvvvvvvvvvvvvvvvvvvvvvvvvvvvvvv-amdhsa--gfx803",
+    );
+    expect_form(&LONG, &mut [b'.'; 255], 255, &LONG);
+    expect_form_by(Reading::Profile, &LONG, &mut [b'.'; 257], 0, &[b'.'; 257]);
 }
 
 // How two canonical forms stand to each other: whether the first, as an entry, is compatible with the second; same meaning; mixed.

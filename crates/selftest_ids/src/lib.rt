@@ -19,6 +19,11 @@ pub fn run() {
     ids::no_processors();
     ids::no_features();
     ids::no_kinds();
+    ids::alternative_forms();
+    ids::unknown_forms();
+    ids::primary_forms();
+    ids::other_forms();
+    ids::long_forms();
     ids::standings();
     ids::more_standings();
     ids::one_kind();

@@ -70,6 +70,10 @@ yes-not a e = rw e
 
 -- ---- as types
 
+pub not-t : (a : Bool) → T (not a) → a ≡ false
+not-t true t = absurd t
+not-t false t = refl
+
 pub of-true : (b : Bool) → b ≡ true → T b
 of-true b e = subst T (sym e) tt
 

@@ -9,8 +9,25 @@ use lib.Dec.{T, eqb, ltb, eqb→eq, eqb-refl, ltb→lt, lt→ltb, eqb·suc-suc}
 use lib.ListN.{length, getD, take}
 use lib.Seq.{getD-take}
 use borrow.Author.Tests.{eq-eqb, ne-eqb, eqb-true, eqb-false, ltb-true, ltb-false, le-ltb}
-use Rattle.wire.specs.Bytes.{same, before, common}
+use Rattle.wire.specs.Bytes.{empty, same, before, common}
 use Rattle.wire.proofs.Bools.{and-l, and-r, and-t, or-t, or-l, or-r, of-true, is-true, is-false, byBool, clash, cond-ind}
+
+-- ---- empty
+
+pub length-empty : (l : List ℕ) → length l ≡ 0 → empty l ≡ true
+unfolding empty
+length-empty [] e = refl
+length-empty (x ∷ l) e = absurd (omega arith)
+
+pub length-some : (l : List ℕ) → (length l ≡ 0 → ⊥) → empty l ≡ false
+unfolding empty
+length-some [] n = absurd (n refl)
+length-some (x ∷ l) n = refl
+
+pub empty-nil : (l : List ℕ) → empty l ≡ true → l ≡ []
+unfolding empty
+empty-nil [] e = refl
+empty-nil (x ∷ l) e = clash false e refl
 
 -- ---- same: equality
 

@@ -1,10 +1,12 @@
-// Bytes read: little-endian words, the common start of two byte strings, equality and order.
+// Bytes read: little-endian words, the common start of two byte strings, equality and order, the first of a byte.
 // Each function is total: a byte past the end counts 0.
 ghost use mathlib.Core.Path.{_≡_};
 ghost use Prim.Native.Nat.{ℕ, _+_, _-_, _^_, _<_, _≤_};
 ghost use mathlib.Core.Logic.{_⊎_, _↔_};
-ghost use mathlib.Core.Bool.{true};
+ghost use mathlib.Core.Bool.{true, _&&_};
+ghost use lib.Dec.{leb, eqb};
 ghost use lib.ListN.{length, getD};
+ghost use Rattle.wire.specs.First.{first};
 ghost use Rattle.wire.specs.Word.{word};
 ghost use Rattle.wire.specs.Bytes.{same, before, common};
 ghost use Rattle.wire_read.specs.BigEndian.{bigWord, Swapped};
@@ -231,4 +233,18 @@ pub fn comes_before(a: &[u8], b: &[u8]) -> bool
         return big8_at(a, i) < big8_at(b, i);
     }
     end_before(a, b, last_place(n))
+}
+
+// Where the first c from `from` on stands; the length where there is none.
+pub fn find(x: &[u8], from: usize, c: u8) -> usize
+    ensures { λ r. ⌜ r ≡ first (length (now (x .entry))) (λ i. leb from i && eqb (getD (now (x .entry)) i 0) c) ⌝ }
+{
+    let mut i = from;
+    while i < x.len() {
+        if x[i] == c {
+            return i;
+        }
+        i += 1;
+    }
+    x.len()
 }

@@ -1,11 +1,12 @@
-//! Bundles: the check, the pick, the entry at an index and normalising.
+//! Bundles: the check, the pick and normalising by either reading, and the entry at an index.
 
 use super::*;
-use crate::calls::BundleCalls;
+use crate::calls::{BundleCalls, Check, EntryAt, Pick, ReadingCalls};
 use crate::gen::bundles::{aims, sample_case, shake, some_count, Case, Draft};
-use crate::gen::examples::bundle_cases;
+use crate::gen::examples::{bundle_cases, profile_cases};
 use crate::guard::Inputs;
 use crate::model::bundle::{check_of, entries, entry_at_of, normalise_of, pick_of, Checked, Entries, Located, Picked};
+use crate::model::id::Reading;
 use crate::samples;
 
 const CHECK: (&str, &[u64]) = ("check", &[0, 1, 2, 3, 4, 5, 6, 21, 7, 8]);
@@ -13,8 +14,14 @@ const PICK: (&str, &[u64]) = ("pick", &[0, 1, 2, 3, 4, 5, 6, 21, 7, 8, 9, 10]);
 const ENTRY: (&str, &[u64]) = ("entry", &[0, 1, 2, 3, 4, 5, 6, 21, 7, 8, 10]);
 const NORMALISE: (&str, &[u64]) = ("normalise", &[0, 1, 2, 3, 4, 5, 6, 21, 7, 8, 11, 12]);
 
+/// How often each line of the profile is aimed at, whatever chance does.
+const EACH_AIM: u64 = 8;
+
 pub struct Bundles {
-    calls: BundleCalls,
+    reading: Reading,
+    calls: ReadingCalls,
+    /// The profile has no such call.
+    entry: Option<EntryAt>,
     aims: Vec<Aim<Draft>>,
     report: Report,
     bundle: Inputs,
@@ -25,11 +32,26 @@ pub struct Bundles {
 }
 
 impl Bundles {
+    /// Calls of the general reading.
     pub fn new(calls: BundleCalls) -> Bundles {
-        let aims = aims();
-        let report = Report { entry_counts: vec![0; 65], ..Report::new(&[CHECK, PICK, ENTRY, NORMALISE], &aims) };
+        let BundleCalls { check, pick, entry, normalise } = calls;
+        Bundles::by(Reading::General, ReadingCalls { check, pick, normalise }, Some(entry))
+    }
+
+    /// Calls of the profile.
+    pub fn profile(calls: ReadingCalls) -> Bundles {
+        Bundles::by(Reading::Profile, calls, None)
+    }
+
+    fn by(reading: Reading, calls: ReadingCalls, entry: Option<EntryAt>) -> Bundles {
+        let aims = aims(reading);
+        let called = [Some(CHECK), Some(PICK), entry.map(|_| ENTRY), Some(NORMALISE)];
+        let called: Vec<_> = called.into_iter().flatten().collect();
+        let report = Report { entry_counts: vec![0; 65], ..Report::new(&called, &aims) };
         Bundles {
+            reading,
             calls,
+            entry,
             report,
             aims,
             bundle: Inputs::new(),
@@ -41,14 +63,14 @@ impl Bundles {
     }
 
     /// Runs the case through every call. The number that each gave.
-    fn compare(&mut self) -> Result<[(&'static str, u64); 4], Difference> {
+    fn compare(&mut self) -> Result<Vec<(&'static str, u64)>, Difference> {
         self.bundle.lend(&self.case.bundle, self.case.zeros);
         self.device.lend(&self.case.device, 0);
         let (bundle, device) = (self.bundle.lent(), self.device.lent());
-        let entries = entries(bundle);
-        let checked = compare_check(&self.calls, bundle, &entries)?;
-        let picked = compare_pick(&self.calls, bundle, device, &entries)?;
-        let located = compare_entry(&self.calls, bundle, self.case.index, &entries)?;
+        let entries = entries(self.reading, bundle);
+        let checked = compare_check(self.calls.check, bundle, &entries)?;
+        let picked = compare_pick(self.calls.pick, bundle, device, pick_of(self.reading, &entries, device))?;
+        let located = self.entry.map(|entry| compare_entry(entry, bundle, self.case.index, &entries)).transpose()?;
         let written = compare_writing(
             NORMALISE.0,
             self.case.room,
@@ -59,14 +81,10 @@ impl Bundles {
         )?;
         let kept = bundle.starts_with(&self.case.bundle) && device == self.case.device;
         holds("all", kept, KEPT, &"changed")?;
-        let numbers = [
-            (CHECK.0, checked.number),
-            (PICK.0, picked.number),
-            (ENTRY.0, located.number),
-            (NORMALISE.0, written.number),
-        ];
-        for (call, number) in numbers {
-            self.report.count(call, number);
+        let mut numbers = vec![(CHECK.0, checked.number), (PICK.0, picked.number), (NORMALISE.0, written.number)];
+        numbers.extend(located.map(|located| (ENTRY.0, located.number)));
+        for (call, number) in &numbers {
+            self.report.count(call, *number);
         }
         if checked.number == OK {
             self.report.entry_counts[checked.count as usize] += 1;
@@ -84,18 +102,31 @@ impl Bundles {
         }
         Ok(())
     }
+
+    /// Aims at each line a few times. There are so many lines about names that chance would leave one out now and then.
+    fn run_each_aim(&mut self) -> Result<(), Difference> {
+        for aim in 0..self.aims.len() {
+            for case in 0..EACH_AIM {
+                let mut random = Random::of_case(case, aim as u64);
+                let mut draft = Draft::good(self.reading, &mut random, 2);
+                (self.aims[aim].make)(&mut draft, &mut random);
+                self.run_case(draft.case(), Some(aim))?;
+            }
+        }
+        Ok(())
+    }
 }
 
-fn compare_check(calls: &BundleCalls, bundle: &[u8], entries: &Entries) -> Result<Checked, Difference> {
-    let (model, library) = (check_of(entries), (calls.check)(bundle));
+fn compare_check(check: Check, bundle: &[u8], entries: &Entries) -> Result<Checked, Difference> {
+    let (model, library) = (check_of(entries), check(bundle));
     same(CHECK.0, &model, &library)?;
     let zeros = if library.number == OK { library.place == 0 } else { library.count == 0 };
     holds(CHECK.0, zeros, ZEROS, &library)?;
     Ok(model)
 }
 
-fn compare_pick(calls: &BundleCalls, bundle: &[u8], device: &[u8], entries: &Entries) -> Result<Picked, Difference> {
-    let (model, library) = (pick_of(entries, device), (calls.pick)(bundle, device));
+fn compare_pick(pick: Pick, bundle: &[u8], device: &[u8], model: Picked) -> Result<Picked, Difference> {
+    let library = pick(bundle, device);
     same(PICK.0, &model, &library)?;
     let others = [library.index, library.position, library.size];
     let zeros = if library.number == OK { library.place == 0 } else { others == [0; 3] };
@@ -103,8 +134,8 @@ fn compare_pick(calls: &BundleCalls, bundle: &[u8], device: &[u8], entries: &Ent
     Ok(model)
 }
 
-fn compare_entry(calls: &BundleCalls, bundle: &[u8], index: u64, entries: &Entries) -> Result<Located, Difference> {
-    let (model, library) = (entry_at_of(entries, index), (calls.entry)(bundle, index));
+fn compare_entry(entry: EntryAt, bundle: &[u8], index: u64, entries: &Entries) -> Result<Located, Difference> {
+    let (model, library) = (entry_at_of(entries, index), entry(bundle, index));
     same(ENTRY.0, &model, &library)?;
     let others = [library.position, library.size, library.id_position, library.id_length];
     let zeros = if library.number == OK { library.place == 0 } else { others == [0; 4] };
@@ -114,10 +145,14 @@ fn compare_entry(calls: &BundleCalls, bundle: &[u8], index: u64, entries: &Entri
 
 impl Family for Bundles {
     fn name(&self) -> &'static str {
-        "bundles"
+        match self.reading {
+            Reading::General => "bundles",
+            Reading::Profile => "profile",
+        }
     }
 
-    /// The examples of RULES B, and each real bundle with each device name, and with each index up to the count.
+    /// The examples of RULES B, and each real bundle with each device name, and with each index up to the count. In the profile also its
+    /// own examples, and some cases for each line, which are not counted.
     fn run_fixed(&mut self) -> Result<u64, Difference> {
         let mut cases = bundle_cases();
         let case = |bundle: &[u8], device: &str, index: usize| Case {
@@ -134,6 +169,10 @@ impl Family for Bundles {
         for sample in samples::REFUSED {
             cases.extend(samples::DEVICES.iter().map(|device| case(sample.bytes, device, 0)));
         }
+        if self.reading == Reading::Profile {
+            cases.extend(profile_cases());
+            self.run_each_aim()?;
+        }
         let count = cases.len() as u64;
         for case in cases {
             self.run_case(case, None)?;
@@ -146,7 +185,7 @@ impl Family for Bundles {
             return self.run_case(sample_case(random), None);
         }
         let count = some_count(random);
-        let mut draft = Draft::good(random, count);
+        let mut draft = Draft::good(self.reading, random, count);
         let aim = apply_aims(&self.aims, &mut draft, random);
         let mut case = draft.case();
         if random.one_in(12) {

@@ -1,17 +1,21 @@
 //! The comparison itself: against the model it finds nothing and meets every line; against a library with a slip it finds it.
 
 mod processors;
+mod profile;
 
 use super::*;
-use crate::calls::{BundleCalls, MODEL, MODEL_BINARY_READER, MODEL_BINARY_WRITER, MODEL_BUNDLE_WRITER};
+use crate::calls::{BundleCalls, MODEL, MODEL_BINARY_READER, MODEL_BINARY_WRITER, MODEL_BUNDLE_WRITER, MODEL_PROFILE};
 use crate::gen::{binary_contents, records};
 use crate::model::binary_writer::Content;
 use crate::model::bundle::{
     check, composition, entries, entry_at, normalise, packed, pick, Checked, Entry, Located, Picked,
 };
 use crate::model::bundle_writer::Record;
+use crate::model::id::Reading::General;
 use crate::model::id::{canonical, compared_kind, compatible, meaning, same_target, Meaning};
-use crate::model::{integer, part, refuse_at, Refusal, COUNT, LENGTH, MIXED, NONE, OVERLAP, RANGE, TWICE};
+use crate::model::{
+    integer, part, refuse_at, Refusal, COUNT, ID, LENGTH, MAGIC, MIXED, NONE, OVERLAP, QUERY, RANGE, TABLE, TWICE,
+};
 
 fn run_generated(family: &mut dyn Family, cases: u64) -> Result<(), Difference> {
     for case in 0..cases {
@@ -29,6 +33,11 @@ fn meets_every_line(mut family: impl Family) {
 #[test]
 fn bundles_meet_every_line() {
     meets_every_line(bundles::Bundles::new(MODEL));
+}
+
+#[test]
+fn the_profile_meets_every_line() {
+    meets_every_line(bundles::Bundles::profile(MODEL_PROFILE));
 }
 
 #[test]
@@ -151,7 +160,7 @@ fn an_unstated_feature_taken_as_a_match_is_found() {
         let fits = |entry: &Meaning| {
             entry.features.iter().all(|(name, sign)| device.features.get(name).unwrap_or(sign) == sign)
         };
-        let found = entries(bundle)
+        let found = entries(General, bundle)
             .unwrap()
             .into_iter()
             .find(|entry| same_target(&entry.meaning, &device) && fits(&entry.meaning));
@@ -209,6 +218,36 @@ fn pick_where(fits: impl Fn(&[u8]) -> bool, bundle: &[u8]) -> Picked {
     match rows.iter().position(|row| fits(row.2)) {
         None => Picked { number: NONE, ..Picked::default() },
         Some(at) => Picked { number: OK, place: 0, index: at as u64, position: rows[at].0, size: rows[at].1 },
+    }
+}
+
+/// What a library takes an ID to mean, or nothing where it refuses it.
+type Reader = fn(&[u8]) -> Option<Meaning<'static>>;
+
+/// The check of a library that reads IDs so.
+fn check_read(reader: Reader, bundle: &[u8]) -> Checked {
+    let checked = check(bundle);
+    if [LENGTH, MAGIC, COUNT, TABLE].contains(&checked.number) {
+        return checked;
+    }
+    let meanings: Vec<Option<Meaning>> = ids(bundle).map(reader).collect();
+    let refused = refuse_at(meanings.len(), ID, |i| meanings[i].is_none());
+    if refused.is_ok() && [RANGE, OVERLAP].contains(&checked.number) {
+        return checked;
+    }
+    let meanings: Vec<Meaning> = meanings.into_iter().flatten().collect();
+    answer(refused.and_then(|()| composition(&meanings)), bundle)
+}
+
+/// The pick of a library that reads the IDs of entries and device names so.
+fn pick_read(entries: Reader, devices: Reader, bundle: &[u8], device: &[u8]) -> Picked {
+    let Checked { number, place, .. } = check_read(entries, bundle);
+    if number != OK {
+        return Picked { number, place, ..Picked::default() };
+    }
+    match devices(device) {
+        None => Picked { number: QUERY, ..Picked::default() },
+        Some(device) => pick_where(|id| compatible(&entries(id).unwrap(), &device), bundle),
     }
 }
 
@@ -441,7 +480,8 @@ fn normal_form_by(texts: impl Fn(&Entry) -> [Vec<u8>; 2], bundle: &[u8], out: &m
     if lawful.number != OK {
         return field.of(lawful);
     }
-    let mut entries: Vec<_> = entries(bundle).unwrap().iter().map(|entry| (texts(entry), entry.image)).collect();
+    let mut entries: Vec<_> =
+        entries(General, bundle).unwrap().iter().map(|entry| (texts(entry), entry.image)).collect();
     entries.sort_by(|one, other| one.0[0].cmp(&other.0[0]));
     let entries: Vec<_> = entries.into_iter().map(|([_, id], image)| (id, image)).collect();
     let bytes = packed(&entries);
@@ -476,7 +516,7 @@ fn slips_of_an_index_are_found() {
     assert_eq!(found_in(id_at_its_row), "entry");
     let canonical_id = with(|bundle, index| match entry_at(bundle, index) {
         located if located.number == OK => {
-            let form = canonical(&entries(bundle).unwrap()[index as usize].meaning);
+            let form = canonical(&entries(General, bundle).unwrap()[index as usize].meaning);
             Located { id_length: form.len() as u64, ..located }
         }
         refused => refused,

@@ -1,5 +1,6 @@
 //! Bundles with a device name, an index and a length for the lent output.
 
+mod cards;
 mod overlaps;
 
 use super::ids::{self, IdMaker, Meaning};
@@ -8,6 +9,7 @@ use super::pairs::{self, Pair};
 use super::random::Random;
 use super::{Aim, Room, LIMIT};
 use crate::model::bundle::MAGIC_BYTES;
+use crate::model::id::{canonical, meaning_by, Reading};
 use crate::model::*;
 use crate::samples;
 
@@ -51,6 +53,8 @@ pub struct Draft {
     pub device: Vec<u8>,
     pub index: u64,
     pub room: Room,
+    /// It is accepted by this reading, as long as nothing damages it.
+    pub reading: Reading,
 }
 
 /// What is lent: the bytes are followed by `zeros` zero bytes.
@@ -65,8 +69,8 @@ pub struct Case {
 
 impl Row {
     /// A row whose image lies there, from the table end on.
-    fn new(random: &mut Random, meaning: Meaning, image: Span) -> Row {
-        let id = ids::spelled(random, &meaning);
+    fn new(reading: Reading, random: &mut Random, meaning: Meaning, image: Span) -> Row {
+        let id = ids::spelled(reading, random, &meaning);
         Row { meaning, id_length: id.len() as u64, id, offset: Offset::AfterTable(image.start), size: image.size }
     }
 
@@ -88,13 +92,14 @@ impl Row {
 
 impl Draft {
     /// A bundle that is accepted, with so many entries.
-    pub fn good(random: &mut Random, count: usize) -> Draft {
+    pub fn good(reading: Reading, random: &mut Random, count: usize) -> Draft {
         let usual = 80.max(6 * count);
         let body_length = if random.one_in(20) { random.between(0, 2000) } else { random.between(0, usual) };
         let body = random.bytes(body_length);
-        let meanings = ids::composed(random, count);
+        let meanings = ids::composed(reading, random, count);
         let spans = images::accepted(random, count, body_length);
-        let rows = meanings.into_iter().zip(spans).map(|(meaning, span)| Row::new(random, meaning, span)).collect();
+        let row = |(meaning, span)| Row::new(reading, random, meaning, span);
+        let rows = meanings.into_iter().zip(spans).map(row).collect();
         let mut draft = Draft {
             magic: MAGIC_BYTES.to_vec(),
             count: count as u64,
@@ -105,21 +110,27 @@ impl Draft {
             device: Vec::new(),
             index: some_index(random, count),
             room: Room::any(random),
+            reading,
         };
         draft.device = draft.likely_device(random);
         draft
     }
 
+    /// Another bundle that is accepted, with so many entries.
+    fn remake(&mut self, random: &mut Random, count: usize) {
+        *self = Draft::good(self.reading, random, count);
+    }
+
     /// A device name that has often a compatible entry.
     fn likely_device(&self, random: &mut Random) -> Vec<u8> {
         if self.rows.is_empty() || random.one_in(8) {
-            let meaning = ids::some_meaning(random);
-            return ids::spelled(random, &meaning);
+            let meaning = ids::some_meaning_by(self.reading, random);
+            return ids::spelled(self.reading, random, &meaning);
         }
         let entry = random.choose(&self.rows);
-        let device = ids::with_more_features(random, &entry.meaning);
+        let device = ids::with_more_features(self.reading, random, &entry.meaning);
         let device = ids::either_spelling(random, device);
-        ids::spelled(random, &device)
+        ids::spelled(self.reading, random, &device)
     }
 
     pub fn table_end(&self) -> u64 {
@@ -172,7 +183,7 @@ impl Draft {
     /// The index of some row; one is put in if there is none.
     fn some_row(&mut self, random: &mut Random) -> usize {
         if self.rows.is_empty() {
-            let meaning = ids::some_meaning(random);
+            let meaning = ids::some_meaning_by(self.reading, random);
             self.put_meaning(random, meaning);
         }
         random.below(self.rows.len())
@@ -180,7 +191,7 @@ impl Draft {
 
     fn put_meaning(&mut self, random: &mut Random, meaning: Meaning) -> usize {
         let image = images::anywhere(random, self.body.len());
-        let row = Row::new(random, meaning, image);
+        let row = Row::new(self.reading, random, meaning, image);
         let at = self.put_row(random, row);
         self.share_image(at);
         at
@@ -273,7 +284,8 @@ pub fn shake(case: &mut Case, random: &mut Random) {
     }
 }
 
-pub fn aims() -> Vec<Aim<Draft>> {
+/// Lines of the calls that a reading has.
+pub fn aims(reading: Reading) -> Vec<Aim<Draft>> {
     let mut aims = Vec::new();
     aims.extend(shape_aims());
     aims.extend(head_aims());
@@ -285,6 +297,10 @@ pub fn aims() -> Vec<Aim<Draft>> {
     aims.extend(device_aims());
     aims.extend(index_aims());
     aims.extend(normal_form_aims());
+    if reading == Reading::Profile {
+        aims.retain(|aim| aim.call != "entry");
+        aims.extend(cards::aims());
+    }
     aims
 }
 
@@ -312,12 +328,12 @@ fn shape_aims() -> Vec<BundleAim> {
         check(OK, "any entries", |_, _| {}),
         check(OK, "0 to 64 entries", |draft, random| {
             let count = random.between(0, 64);
-            *draft = Draft::good(random, count);
+            draft.remake(random, count);
         }),
-        check(OK, "no entries", |draft, random| *draft = Draft::good(random, 0)),
-        check(OK, "1 entry", |draft, random| *draft = Draft::good(random, 1)),
-        check(OK, "63 entries", |draft, random| *draft = Draft::good(random, 63)).large(),
-        check(OK, "64 entries", |draft, random| *draft = Draft::good(random, 64)).large(),
+        check(OK, "no entries", |draft, random| draft.remake(random, 0)),
+        check(OK, "1 entry", |draft, random| draft.remake(random, 1)),
+        check(OK, "63 entries", |draft, random| draft.remake(random, 63)).large(),
+        check(OK, "64 entries", |draft, random| draft.remake(random, 64)).large(),
         check(OK, "nothing after the table", |draft, _| draft.drop_images()),
         check(OK, "fewer counted than stand there", |draft, random| {
             draft.some_row(random);
@@ -351,7 +367,7 @@ fn head_aims() -> Vec<BundleAim> {
         check(COUNT, "under 32 bytes", |draft, random| draft.cut = Some(random.between(24, 31))),
         check(COUNT, "31 bytes", |draft, _| draft.cut = Some(31)),
         check(COUNT, "65 entries", |draft, random| {
-            *draft = Draft::good(random, 65);
+            draft.remake(random, 65);
         })
         .large(),
         check(COUNT, "count of 65 before fewer entries", |draft, _| draft.count = 65),
@@ -545,15 +561,15 @@ fn device_aims() -> Vec<BundleAim> {
         }),
         pick(OK, "device: an entry's meaning", |draft, random| {
             let at = draft.some_row(random);
-            draft.device = ids::spelled(random, &draft.rows[at].meaning);
+            draft.device = ids::spelled(draft.reading, random, &draft.rows[at].meaning);
         }),
         pick(OK, "device: an entry's meaning and more features", |draft, random| {
             let at = draft.some_row(random);
-            let device = ids::with_more_features(random, &draft.rows[at].meaning);
-            draft.device = ids::spelled(random, &device);
+            let device = ids::with_more_features(draft.reading, random, &draft.rows[at].meaning);
+            draft.device = ids::spelled(draft.reading, random, &device);
         }),
-        pick(OK, "device: one of 64 entries", |draft, random| *draft = Draft::good(random, 64)).large(),
-        pick(NONE, "device: no entries", |draft, random| *draft = Draft::good(random, 0)),
+        pick(OK, "device: one of 64 entries", |draft, random| draft.remake(random, 64)).large(),
+        pick(NONE, "device: no entries", |draft, random| draft.remake(random, 0)),
         pick(QUERY, "device: no bytes", |draft, _| draft.device.clear()),
         pick(QUERY, "device: above 257 bytes", |draft, random| {
             let length = random.between(258, 2000);
@@ -579,7 +595,7 @@ fn asks(pair: Pair) -> BundleAim {
     Aim::new("pick", pair.number, &format!("device: {}", pair.name), move |draft: &mut Draft, random| {
         let [entry, device] = (pair.make)(random);
         draft.put_meaning(random, entry);
-        draft.device = ids::spelled(random, &device);
+        draft.device = ids::spelled(draft.reading, random, &device);
     })
 }
 
@@ -612,18 +628,18 @@ fn index_aims() -> Vec<BundleAim> {
         }),
         entry(OK, "index of any entry", |draft, random| draft.index = draft.some_row(random) as u64),
         entry(OK, "index of the last of 64 entries", |draft, random| {
-            *draft = Draft::good(random, 64);
+            draft.remake(random, 64);
             draft.index = 63;
         })
         .large(),
         entry(NONE, "index of the count", |draft, _| draft.index = draft.count),
         entry(NONE, "index of the count, 64 entries", |draft, random| {
-            *draft = Draft::good(random, 64);
+            draft.remake(random, 64);
             draft.index = 64;
         })
         .large(),
         entry(NONE, "index 0, no entries", |draft, random| {
-            *draft = Draft::good(random, 0);
+            draft.remake(random, 0);
             draft.index = 0;
         }),
         entry(NONE, "index of a row that is not counted", |draft, random| {
@@ -647,7 +663,7 @@ fn normal_form_aims() -> Vec<BundleAim> {
         normalise(OK, "room exactly", |draft, _| draft.room = Room::Exact),
         normalise(OK, "room to spare", |draft, random| draft.room = Room::Spare(random.between(1, 300))),
         normalise(OK, "64 entries in normal form", |draft, random| {
-            *draft = Draft::good(random, 64);
+            draft.remake(random, 64);
             draft.room = Room::Exact;
         })
         .large(),
@@ -663,11 +679,15 @@ fn normal_form_aims() -> Vec<BundleAim> {
         }),
         normalise(ROOM, "room 1 byte short", |draft, _| draft.room = Room::Short(1)),
         normalise(ROOM, "no room", |draft, _| draft.room = Room::Nothing),
-        normalise(ROOM, "normal form of the size limit", |draft, random| normal_length(draft, random, LIMIT)),
-        normalise(BIG, "normal form 1 above the size limit", |draft, random| normal_length(draft, random, LIMIT + 1)),
+        normalise(ROOM, "normal form of the size limit", |draft, random| {
+            normal_length(draft, random, CANONICAL, LIMIT)
+        }),
+        normalise(BIG, "normal form 1 above the size limit", |draft, random| {
+            normal_length(draft, random, CANONICAL, LIMIT + 1)
+        }),
         normalise(BIG, "normal form far above the size limit", |draft, random| {
             let count = *random.choose(FAR_ABOVE);
-            *draft = Draft::good(random, count);
+            draft.remake(random, count);
             fill_to(draft, LIMIT);
             let (start, length) = (draft.table_end(), draft.length());
             draft.rows.iter_mut().for_each(|row| row.set_image(start, length - start));
@@ -675,18 +695,32 @@ fn normal_form_aims() -> Vec<BundleAim> {
     ]
 }
 
-/// Two entries that share an image, and one with an image of its own, so that the normal form has this length in a container half as long.
-fn normal_length(draft: &mut Draft, random: &mut Random, length: usize) {
-    *draft = Draft::good(random, 0);
-    for id in [b"hip-a-b-c-d-", b"hip-a-b-c-e-", b"hip-a-b-c-f-"] {
+/// IDs of the three entries of `normal_length`.
+const CANONICAL: [&[u8]; 3] = [b"hip-a-b-c-d-", b"hip-a-b-c-e-", b"hip-a-b-c-f-"];
+
+/// A bundle of entries with these IDs.
+fn remake_of(draft: &mut Draft, random: &mut Random, ids: [&[u8]; 3]) {
+    draft.remake(random, 0);
+    for id in ids {
         draft.put_id(random, id.to_vec());
     }
+}
+
+/// Two entries that share an image, and one with an image of its own, so that the normal form has this length in a container half as long.
+fn normal_length(draft: &mut Draft, random: &mut Random, ids: [&[u8]; 3], length: usize) {
+    remake_of(draft, random, ids);
     let start = draft.table_end();
-    let images = length as u64 - start;
+    let table: usize = ids.iter().map(|id| 24 + form_length(draft.reading, id)).sum();
+    let images = (length - 32 - table) as u64;
     let own = 2 * random.between(0, 500) as u64 + images % 2;
     let shared = (images - own) / 2;
     fill_to(draft, (start + shared + own) as usize);
     draft.rows[0].set_image(start, shared);
     draft.rows[1].set_image(start + shared, own);
     draft.rows[2].set_image(start, shared);
+}
+
+/// How long the canonical form of an ID is that keeps the rules.
+fn form_length(reading: Reading, id: &[u8]) -> usize {
+    meaning_by(reading, id).map(|meaning| canonical(&meaning).len()).expect("an ID that keeps the rules")
 }

@@ -1,9 +1,10 @@
-//! The examples of RULES B, B.1 to B.13, B.16 and B.17, and processors with hyphens, as cases. `model/examples.rs` says what comes of
-//! them.
+//! The examples of RULES B, B.1 to B.13, B.16 and B.17, processors with hyphens, and our own cards, as cases. `model/examples.rs` says
+//! what comes of them.
 
 use super::{binaries, bundles, Room};
 use crate::model::binary_writer::{write_binary, Content, PairParts};
 use crate::model::bundle::packed;
+use crate::model::{ID, MIXED, NONE, OK, QUERY, TWICE};
 
 /// A bundle with these IDs as spelled and these images, packed.
 pub fn bundle(entries: &[(&str, &[u8])]) -> Vec<u8> {
@@ -81,14 +82,11 @@ pub const HYPHENS: &[&str] =
 pub const HYPHEN_AT_AN_END: &[&str] =
     &["hip-a-b-c-gfxenv-", "hip-a-b-c-gfx9-x-:a-", "hip-a-b-c-gnu-x-", "hip-a-b-c-gnu--x", "hip-a-b-c-gnu--"];
 
+fn case(bundle: Vec<u8>, device: &str) -> bundles::Case {
+    bundles::Case { bundle, zeros: 0, device: device.as_bytes().to_vec(), index: 0, room: Room::Exact }
+}
+
 pub fn bundle_cases() -> Vec<bundles::Case> {
-    let case = |bundle: Vec<u8>, device: &str| bundles::Case {
-        bundle,
-        zeros: 0,
-        device: device.as_bytes().to_vec(),
-        index: 0,
-        room: Room::Exact,
-    };
     let mut cases = vec![
         case(Vec::new(), PLAIN),
         case(bundle(&[]), PLAIN),
@@ -138,6 +136,91 @@ pub fn bundle_cases() -> Vec<bundles::Case> {
     cases.extend(HYPHEN_AT_AN_END.iter().map(|id| case(bundle(&[(id, b"image")]), PLAIN)));
     cases.extend(HYPHEN_AT_AN_END.iter().map(|id| case(bundle(&[(PLAIN, b"image")]), id)));
     cases
+}
+
+/// IDs of entries, a device name, and what the profile answers: number and place of the check, number and index of the pick.
+pub type CardExample = (&'static [&'static str], &'static str, (u64, u64), (u64, u64));
+
+pub const CARD_EXAMPLES: &[CardExample] = &[
+    // An alternative name means its primary.
+    (&["hip-amdgcn-amd-amdhsa--fiji"], "hip-amdgcn-amd-amdhsa-gfx803", (OK, 0), (OK, 0)),
+    (&["hip-amdgcn-amd-amdhsa-gfx803"], "hipv4-amdgcn-amd-amdhsa--polaris11", (OK, 0), (OK, 0)),
+    (&["hip-amdgcn-amd-amdhsa--polaris10"], "hip-amdgcn-amd-amdhsa--fiji", (OK, 0), (OK, 0)),
+    (&["openmp-amdgcn-amd-amdhsa--tahiti"], "openmp-amdgcn-amd-amdhsa-gfx600", (OK, 0), (OK, 0)),
+    (&["hip-amdgcn-amd-amdhsa--fiji", "hip-amdgcn-amd-amdhsa-gfx803"], "", (TWICE, 1), (TWICE, 0)),
+    (&["hip-amdgcn-amd-amdhsa--fiji", "hip-amdgcn-amd-amdhsa--polaris10"], "", (TWICE, 1), (TWICE, 0)),
+    (&["hipv4-amdgcn-amd-amdhsa--fiji", "hip-amdgcn-amd-amdhsa--gfx803"], "", (TWICE, 1), (TWICE, 0)),
+    (
+        &["openmp-amdgcn-amd-amdhsa--fiji", "hip-amdgcn-amd-amdhsa--gfx803"],
+        "hip-amdgcn-amd-amdhsa--fiji",
+        (OK, 0),
+        (OK, 1),
+    ),
+    (&["hip-amdgcn-amd-amdhsa--fiji"], "hip-amdgcn-amd-amdhsa--tonga", (OK, 0), (NONE, 0)),
+    (&["hip-amdgcn-amd-amdhsa-gnu-fiji"], "hip-amdgcn-amd-amdhsa-gnu-gfx803", (OK, 0), (OK, 0)),
+    (&["hip-amdgcn-amd-amdhsa-gnu-fiji"], "hip-amdgcn-amd-amdhsa--gfx803", (OK, 0), (NONE, 0)),
+    // Features that a row supports, and others.
+    (&["hip-amdgcn-amd-amdhsa--carrizo", "hip-amdgcn-amd-amdhsa-gfx801:xnack+"], "", (MIXED, 1), (MIXED, 0)),
+    (
+        &["hip-amdgcn-amd-amdhsa--carrizo:xnack+", "hip-amdgcn-amd-amdhsa-gfx801:xnack-"],
+        "hip-amdgcn-amd-amdhsa--carrizo:xnack-",
+        (OK, 0),
+        (OK, 1),
+    ),
+    (&["hip-amdgcn-amd-amdhsa--carrizo"], "hip-amdgcn-amd-amdhsa-gfx801:xnack-", (OK, 0), (OK, 0)),
+    (&["hip-amdgcn-amd-amdhsa--carrizo:xnack-"], "hip-amdgcn-amd-amdhsa-gfx801", (OK, 0), (NONE, 0)),
+    (&["hip-amdgcn-amd-amdhsa-gfx90a:xnack+:sramecc-"], "hip-amdgcn-amd-amdhsa-gfx90a:foo+", (OK, 0), (QUERY, 0)),
+    (&["hip-amdgcn-amd-amdhsa-gfx900:xnack+"], "hip-amdgcn-amd-amdhsa-gfx900:sramecc+", (OK, 0), (QUERY, 0)),
+    (&["hip-amdgcn-amd-amdhsa-gfx900:sramecc+"], "", (ID, 0), (ID, 0)),
+    (&["hip-amdgcn-amd-amdhsa-gfx900:sramecc-"], "", (ID, 0), (ID, 0)),
+    (&["hip-amdgcn-amd-amdhsa-gfx90a:foo+"], "", (ID, 0), (ID, 0)),
+    (&["hip-amdgcn-amd-amdhsa-gfx90a:xnack+:foo+:sramecc+"], "", (ID, 0), (ID, 0)),
+    (&["hip-amdgcn-amd-amdhsa-gfx803:xnack+"], "", (ID, 0), (ID, 0)),
+    (&["hip-amdgcn-amd-amdhsa--fiji:xnack+"], "", (ID, 0), (ID, 0)),
+    (&["hip-amdgcn-amd-amdhsa-gfx12-generic"], "hip-amdgcn-amd-amdhsa-gfx12-generic:xnack+", (OK, 0), (QUERY, 0)),
+    (&["hip-amdgcn-amd-amdhsa--gfx9-generic:xnack+"], "hip-amdgcn-amd-amdhsa-gfx9-generic:xnack+", (OK, 0), (OK, 0)),
+    // Processors that the table has not.
+    (&["hip-amdgcn-amd-amdhsa--fiji", "openmp-amdgcn-amd-amdhsa-gfx9-4-generic"], "", (ID, 1), (ID, 0)),
+    (&["hip-amdgcn-amd-amdhsa--fiji", "hip-amdgcn-amd-amdhsa--Fiji", "hip"], "", (ID, 1), (ID, 0)),
+    (&["hip-amdgcn-amd-amdhsa--fiji", "hip", "hipv4-amdgcn-amd-amdhsa-gfx9000"], "", (ID, 1), (ID, 0)),
+    (&["hip-amdgcn-amd-amdhsa-gfx906"], "hip-amdgcn-amd-amdhsa--Gfx906", (OK, 0), (QUERY, 0)),
+    (&["hip-amdgcn-amd-amdhsa-gfx906"], "hip-amdgcn-amd-amdhsa-gfx90", (OK, 0), (QUERY, 0)),
+    (&["hip-amdgcn-amd-amdhsa-gfx906"], "openmp-amdgcn-amd-amdhsa-sm_70", (OK, 0), (QUERY, 0)),
+    (&["hip-amdgcn-x-y-gfx9000"], "", (ID, 0), (ID, 0)),
+    // All other IDs read as before.
+    (&["host-amdgcn-amd-amdhsa--fiji:foo+"], "host-amdgcn-amd-amdhsa--fiji:foo+", (OK, 0), (OK, 0)),
+    (
+        &["host-amdgcn-amd-amdhsa--fiji", "host-amdgcn-amd-amdhsa--gfx803"],
+        "host-amdgcn-amd-amdhsa--gfx803",
+        (OK, 0),
+        (OK, 1),
+    ),
+    (
+        &["hip-amdgcn1-amd-amdhsa--fiji", "hip-amdgcn1-amd-amdhsa-gfx803:foo+"],
+        "hip-amdgcn1-amd-amdhsa-gfx803:foo+",
+        (OK, 0),
+        (OK, 1),
+    ),
+    (&["hip-amdgc-amd-amdhsa--fiji"], "hip-amdgc-amd-amdhsa-gfx803", (OK, 0), (NONE, 0)),
+    (&["hip-amd-amdgcn-amdhsa-gfx9000"], "hip-amd-amdgcn-amdhsa-gfx9000:foo-", (OK, 0), (OK, 0)),
+    (&["hip-amdgcn-amd-amdhsa"], "hip-amdgcn-amd-amdhsa--", (OK, 0), (OK, 0)),
+    (&["hip-amdgcn-amd-amdhsa-gnu"], "hip-amdgcn-amd-amdhsa-gnu-", (OK, 0), (OK, 0)),
+    // An alternative name in the fifth field is an environment.
+    (&["hip-amdgcn-amd-amdhsa-fiji", "hip-amdgcn-amd-amdhsa--fiji"], "hip-amdgcn-amd-amdhsa-fiji-", (OK, 0), (OK, 0)),
+    (&["hip-amdgcn-amd-amdhsa-fiji"], "hip-amdgcn-amd-amdhsa-gfx803", (OK, 0), (NONE, 0)),
+    (&["hip-amdgcn-amd-amdhsa-fiji-gfx906"], "hip-amdgcn-amd-amdhsa-fiji-gfx906:xnack-", (OK, 0), (OK, 0)),
+    (&["hip-amdgcn-amd-amdhsa-fiji-tonga"], "hip-amdgcn-amd-amdhsa-fiji-gfx802", (OK, 0), (OK, 0)),
+    (&["hip-amdgcn-amd-amdhsa-fiji-foo"], "", (ID, 0), (ID, 0)),
+    (&["hip-amdgcn-amd-amdhsa-fiji:xnack+"], "", (ID, 0), (ID, 0)),
+];
+
+/// The examples of our own cards, each entry with an image of its own.
+pub fn profile_cases() -> Vec<bundles::Case> {
+    CARD_EXAMPLES.iter().map(|(ids, device, ..)| case(card_bundle(ids), device)).collect()
+}
+
+pub fn card_bundle(ids: &[&str]) -> Vec<u8> {
+    bundle(&ids.iter().map(|id| (*id, &b"image"[..])).collect::<Vec<_>>())
 }
 
 /// The kinds, flags and string pair of the binary with `arch`/`sm_70`; its strings and its image follow.

@@ -1,9 +1,12 @@
 //! Entry IDs and device names: meanings, their spellings, the limits, and broken ones.
 
+pub mod cards;
 pub mod processors;
 
 use super::random::Random;
-use crate::model::id::{begins_a_processor, compared_kind, meaning, same_meaning, same_target, sign_byte, Sign, Text};
+use crate::model::id::{
+    begins_a_processor, compared_kind, meaning_by, same_meaning, same_target, sign_byte, Reading, Sign, Text,
+};
 use std::collections::BTreeMap;
 
 /// A meaning with texts of its own.
@@ -164,7 +167,7 @@ fn at_most(random: &mut Random, bytes: usize, make: impl Fn(&mut Random) -> Mean
     }
 }
 
-/// Any meaning that keeps the rules.
+/// Any meaning that keeps the general rules.
 pub fn some_meaning(random: &mut Random) -> Meaning {
     at_most(random, 256, |random| match some_feature_count(random) {
         0 => target(random),
@@ -172,10 +175,23 @@ pub fn some_meaning(random: &mut Random) -> Meaning {
     })
 }
 
+/// Any meaning that keeps the rules of a reading.
+pub fn some_meaning_by(reading: Reading, random: &mut Random) -> Meaning {
+    match reading {
+        Reading::General => some_meaning(random),
+        Reading::Profile => composed(reading, random, 1).remove(0),
+    }
+}
+
 /// The meaning of an ID, which need not live as long; nothing where it breaks the rules.
 pub fn read(id: &[u8]) -> Option<Meaning> {
+    read_by(Reading::General, id)
+}
+
+/// The same by a reading.
+pub fn read_by(reading: Reading, id: &[u8]) -> Option<Meaning> {
     let owned = |text: Text| Text::Owned(text.into_owned());
-    meaning(id).map(|meaning| Meaning {
+    meaning_by(reading, id).map(|meaning| Meaning {
         kind: owned(meaning.kind),
         arch: owned(meaning.arch),
         vendor: owned(meaning.vendor),
@@ -192,9 +208,14 @@ pub fn meaning_of(id: &[u8]) -> Meaning {
 }
 
 /// The meaning with features more than it states, up to 8 in all.
-pub fn with_more_features(random: &mut Random, meaning: &Meaning) -> Meaning {
+pub fn with_more_features(reading: Reading, random: &mut Random, meaning: &Meaning) -> Meaning {
     let mut more = meaning.clone();
-    if more.processor.is_some() {
+    if let Some(row) = cards::row_of(reading, meaning) {
+        for name in cards::some_features(random, row) {
+            let sign = sign(random);
+            more.features.entry(name).or_insert(sign);
+        }
+    } else if more.processor.is_some() {
         let total = random.between(more.features.len(), 8);
         while more.features.len() < total {
             let name = feature_name(random);
@@ -210,13 +231,16 @@ pub fn with_more_features(random: &mut Random, meaning: &Meaning) -> Meaning {
 }
 
 /// Meanings that may stand in one bundle, in any order.
-pub fn composed(random: &mut Random, count: usize) -> Vec<Meaning> {
+pub fn composed(reading: Reading, random: &mut Random, count: usize) -> Vec<Meaning> {
     let mut meanings: Vec<Meaning> = Vec::new();
     while meanings.len() < count {
-        let target = target(random);
+        let target = match reading {
+            Reading::General => target(random),
+            Reading::Profile => cards::target(random),
+        };
         if !meanings.iter().any(|other| same_target(other, &target)) {
             let most = count - meanings.len();
-            meanings.extend(group(random, target, most));
+            meanings.extend(group(reading, random, target, most));
         }
     }
     random.shuffle(&mut meanings);
@@ -224,10 +248,9 @@ pub fn composed(random: &mut Random, count: usize) -> Vec<Meaning> {
 }
 
 /// Different meanings of one target that all state the same feature names, `most` at most, each with its kind in either spelling.
-fn group(random: &mut Random, target: Meaning, most: usize) -> Vec<Meaning> {
+fn group(reading: Reading, random: &mut Random, target: Meaning, most: usize) -> Vec<Meaning> {
     let mut group = Vec::new();
-    let names_count = if target.processor.is_some() { some_feature_count(random) } else { 0 };
-    let names = feature_names(random, names_count);
+    let names = some_names(reading, random, &target);
     let tries = random.between(1, 4).min(most);
     for _ in 0..tries {
         let meaning = with_features(random, target.clone(), &names);
@@ -237,6 +260,15 @@ fn group(random: &mut Random, target: Meaning, most: usize) -> Vec<Meaning> {
         }
     }
     group
+}
+
+/// Names of features that a target may state.
+fn some_names(reading: Reading, random: &mut Random, target: &Meaning) -> Vec<Text<'static>> {
+    if let Some(row) = cards::row_of(reading, target) {
+        return cards::some_features(random, row);
+    }
+    let count = if target.processor.is_some() { some_feature_count(random) } else { 0 };
+    feature_names(random, count)
 }
 
 /// The numbers of fields with which a meaning can be spelled; a processor is one field, with its hyphens.
@@ -299,7 +331,13 @@ fn spelled_with(random: &mut Random, meaning: &Meaning, count: usize) -> Vec<u8>
 }
 
 /// Any spelling of a meaning that is at most 256 bytes long.
-pub fn spelled(random: &mut Random, meaning: &Meaning) -> Vec<u8> {
+pub fn spelled(reading: Reading, random: &mut Random, meaning: &Meaning) -> Vec<u8> {
+    let renamed = cards::row_of(reading, meaning).map(|row| cards::renamed(random, meaning, row));
+    as_named(random, renamed.as_ref().unwrap_or(meaning))
+}
+
+/// Any spelling of a meaning with its processor's name as it is.
+pub fn as_named(random: &mut Random, meaning: &Meaning) -> Vec<u8> {
     let counts = field_counts(meaning);
     let count = *random.choose(&counts);
     spelled_with(random, meaning, count)
@@ -309,8 +347,10 @@ pub fn spelled(random: &mut Random, meaning: &Meaning) -> Vec<u8> {
 #[derive(Clone, Copy)]
 pub struct IdMaker {
     pub name: &'static str,
-    pub make: fn(&mut Random) -> Vec<u8>,
+    pub make: MakeId,
 }
+
+pub type MakeId = fn(&mut Random) -> Vec<u8>;
 
 /// IDs that keep the rules, at their limits.
 const EDGES: &[IdMaker] = &[
@@ -380,6 +420,17 @@ pub fn of_length(random: &mut Random, fields: usize, length: usize) -> Vec<u8> {
 
 /// A spelling of so many fields, of a meaning that is made so, in so many bytes: one field is as long as it has to be.
 fn filled(random: &mut Random, fields: usize, length: usize, make: impl Fn(&mut Random) -> Meaning) -> Vec<u8> {
+    filled_in(random, fields, length, make, some_field)
+}
+
+/// The same, in this field.
+fn filled_in(
+    random: &mut Random,
+    fields: usize,
+    length: usize,
+    make: impl Fn(&mut Random) -> Meaning,
+    field: for<'a> fn(&mut Random, &'a mut Meaning) -> &'a mut Vec<u8>,
+) -> Vec<u8> {
     loop {
         let mut meaning = make(random);
         if !field_counts(&meaning).contains(&fields) {
@@ -388,7 +439,7 @@ fn filled(random: &mut Random, fields: usize, length: usize, make: impl Fn(&mut 
         let now = spelled_with(random, &meaning, fields).len();
         if now <= length {
             let more: Vec<u8> = (now..length).map(|_| *random.choose(FIELD_BYTES)).collect();
-            some_field(random, &mut meaning).extend(more);
+            field(random, &mut meaning).extend(more);
             return spelled_with(random, &meaning, fields);
         }
     }
@@ -406,7 +457,7 @@ fn some_field<'a>(random: &mut Random, meaning: &'a mut Meaning) -> &'a mut Vec<
 
 fn of_features(random: &mut Random, count: usize) -> Vec<u8> {
     let meaning = at_most(random, 256, |random| with_feature_count(random, count));
-    spelled(random, &meaning)
+    as_named(random, &meaning)
 }
 
 /// A meaning that is made so, short enough that no damage makes its ID longer than 256 bytes.
@@ -510,14 +561,14 @@ fn no_processor(random: &mut Random, fields: usize) -> Vec<u8> {
 #[cfg(test)]
 mod tests {
     use super::*;
-    use crate::model::id::canonical;
+    use crate::model::id::{canonical, meaning};
 
     #[test]
     fn spellings_mean_what_they_spell() {
         let mut random = Random::of_case(1, 1);
         for _ in 0..20_000 {
             let expected = some_meaning(&mut random);
-            let id = spelled(&mut random, &expected);
+            let id = as_named(&mut random, &expected);
             assert_eq!(canonical_length(&expected), canonical(&expected).len());
             assert_eq!(meaning(&id), Some(expected), "{}", String::from_utf8_lossy(&id));
         }

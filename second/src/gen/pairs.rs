@@ -1,9 +1,11 @@
 //! Two IDs that are compared: two entries of one bundle, or an entry and a device name.
 
+pub mod cards;
+
 use super::ids::processors::{self, double_hyphen, hyphens_of};
 use super::ids::{self, Meaning, KINDS};
 use super::random::Random;
-use crate::model::id::{Sign, Text};
+use crate::model::id::{Reading, Sign, Text};
 use crate::model::{MIXED, NONE, OK, QUERY, TWICE};
 
 const HIP: &[&str] = &["hip", "hipv4"];
@@ -88,7 +90,7 @@ const ENTRY_CHANGES: &[(u64, &str, Change)] = &[
 
 const DEVICE_CHANGES: &[(u64, &str, Change)] = &[
     (OK, "the same meaning", |_, _| {}),
-    (OK, "more features", |device, random| *device = ids::with_more_features(random, device)),
+    (OK, "more features", |device, random| *device = ids::with_more_features(Reading::General, random, device)),
     (NONE, "another sign", |device, _| change_sign(device)),
     (NONE, "a feature less", |device, _| drop_last_feature(device)),
     (NONE, "no feature", |device, _| device.features.clear()),
@@ -236,7 +238,7 @@ fn change_sign(meaning: &mut Meaning) {
 #[cfg(test)]
 mod tests {
     use super::*;
-    use crate::model::bundle::{check, packed, pick};
+    use crate::model::bundle::{check_of, entries as entries_of, packed, pick_of};
     use crate::model::id::canonical;
     use crate::model::ID;
 
@@ -245,34 +247,42 @@ mod tests {
     }
 
     /// Each pair many times, but for the few that a change made too long.
-    fn each_pair(pairs: Vec<Pair>, run: impl Fn(&Pair, &Meaning, &Meaning)) {
+    fn each_pair(reading: Reading, pairs: Vec<Pair>, run: impl Fn(&Pair, &Meaning, &Meaning)) {
         let mut random = Random::of_case(1, 3);
         for pair in pairs {
             for _ in 0..200 {
                 let [one, other] = (pair.make)(&mut random);
-                if check(&bundle(&[&one, &other])).number != ID || pair.number == QUERY {
+                if check_of(&entries_of(reading, &bundle(&[&one, &other]))).number != ID || pair.number == QUERY {
                     run(&pair, &one, &other);
                 }
             }
         }
     }
 
-    #[test]
-    fn two_entries_give_their_number_at_the_second() {
-        each_pair(entries(), |pair, one, other| {
+    pub fn entries_give_their_number(reading: Reading, pairs: Vec<Pair>) {
+        each_pair(reading, pairs, |pair, one, other| {
             for both in [[one, other], [other, one]] {
-                let checked = check(&bundle(&both));
+                let checked = check_of(&entries_of(reading, &bundle(&both)));
                 let place = if pair.number == OK { 0 } else { 1 };
                 assert_eq!((checked.number, checked.place), (pair.number, place), "{}: {both:?}", pair.name);
             }
         });
     }
 
-    #[test]
-    fn an_entry_and_a_device_give_their_number() {
-        each_pair(devices(), |pair, entry, device| {
-            let picked = pick(&bundle(&[entry]), &canonical(device));
+    pub fn device_gives_its_number(reading: Reading, pairs: Vec<Pair>) {
+        each_pair(reading, pairs, |pair, entry, device| {
+            let picked = pick_of(reading, &entries_of(reading, &bundle(&[entry])), &canonical(device));
             assert_eq!(picked.number, pair.number, "{}: {entry:?}, {device:?}", pair.name);
         });
+    }
+
+    #[test]
+    fn two_entries_give_their_number_at_the_second() {
+        entries_give_their_number(Reading::General, entries());
+    }
+
+    #[test]
+    fn an_entry_and_a_device_give_their_number() {
+        device_gives_its_number(Reading::General, devices());
     }
 }

@@ -7,6 +7,7 @@ use super::pairs::{self, Pair};
 use super::random::Random;
 use super::{Aim, Room, LIMIT};
 use crate::model::bundle_writer::Record;
+use crate::model::id::Reading;
 use crate::model::*;
 
 /// What the bundle writer is given: the image buffer is followed by `zeros` zero bytes.
@@ -30,7 +31,7 @@ impl Case {
             zeros: 0,
             room: Room::any(random),
         };
-        for meaning in ids::composed(random, count) {
+        for meaning in ids::composed(Reading::General, random, count) {
             case.put_meaning(random, &meaning);
         }
         random.shuffle(&mut case.records);
@@ -66,7 +67,7 @@ impl Case {
     }
 
     fn put_meaning(&mut self, random: &mut Random, meaning: &Meaning) {
-        let id = ids::spelled(random, meaning);
+        let id = ids::as_named(random, meaning);
         self.put_id(random, &id);
     }
 

@@ -1,6 +1,6 @@
 //! "Bundle bytes", the check, the pick, the entry at an index, and "Normal form".
 
-use super::id::{canonical, compatible, meaning, mixed, same_meaning, Meaning};
+use super::id::{canonical, compatible, meaning_by, mixed, same_meaning, Meaning, Reading};
 use super::*;
 
 pub const MAGIC_BYTES: &[u8; 24] = b"__CLANG_OFFLOAD_BUNDLE__";
@@ -58,13 +58,13 @@ pub type Entries<'a> = Result<Vec<Entry<'a>>, Refusal>;
 
 /// 1 to 8, in this order, "each of 4 to 8 .. tried over all entries before the next". OVERLAP is "checked after 6 over all entries and
 /// before 7", and "joins every list that says 1 to 8".
-pub fn entries(bundle: &[u8]) -> Entries<'_> {
+pub fn entries(reading: Reading, bundle: &[u8]) -> Entries<'_> {
     let length = bundle.len() as u128;
     refuse_if(length > SIZE_LIMIT, LENGTH)?;
     refuse_if(length < 24 || bundle[..24] != MAGIC_BYTES[..], MAGIC)?;
     refuse_if(length < 32 || integer(bundle, 24, 8) > ENTRY_LIMIT, COUNT)?;
     let (rows, table_end) = table(bundle)?;
-    let meanings: Vec<Option<Meaning>> = rows.iter().map(|row| meaning(row.id)).collect();
+    let meanings: Vec<Option<Meaning>> = rows.iter().map(|row| meaning_by(reading, row.id)).collect();
     refuse_at(rows.len(), ID, |i| meanings[i].is_none())?;
     let meanings: Vec<Meaning> = meanings.into_iter().flatten().collect();
     refuse_at(rows.len(), RANGE, |i| out_of_range(&rows[i], table_end, length))?;
@@ -123,9 +123,9 @@ fn entry<'a>(bundle: &'a [u8], meaning: Meaning<'a>, row: &Row<'a>) -> Entry<'a>
     Entry { meaning, id_position: row.id_position, id: row.id, offset: row.offset, image }
 }
 
-/// The bundle check.
+/// The bundle check. This one and the other calls that are given a bundle as bytes read it by the general reading.
 pub fn check(bundle: &[u8]) -> Checked {
-    check_of(&entries(bundle))
+    check_of(&entries(Reading::General, bundle))
 }
 
 /// What the check returns for a bundle of which this was read.
@@ -138,12 +138,12 @@ pub fn check_of(entries: &Entries) -> Checked {
 
 /// "A pick checks 1 to 8, then 9, then 10."
 pub fn pick(bundle: &[u8], device: &[u8]) -> Picked {
-    pick_of(&entries(bundle), device)
+    pick_of(Reading::General, &entries(Reading::General, bundle), device)
 }
 
-/// What a pick returns for a bundle of which this was read.
-pub fn pick_of(entries: &Entries, device: &[u8]) -> Picked {
-    match picked_entry(entries, device) {
+/// What a pick returns for a bundle of which this was read, by the same reading.
+pub fn pick_of(reading: Reading, entries: &Entries, device: &[u8]) -> Picked {
+    match picked_entry(reading, entries, device) {
         Err(refusal) => Picked { number: refusal.number, place: refusal.place, ..Picked::default() },
         Ok((index, entry)) => {
             Picked { number: OK, place: 0, index: index as u64, position: entry.offset, size: entry.image.len() as u64 }
@@ -152,9 +152,9 @@ pub fn pick_of(entries: &Entries, device: &[u8]) -> Picked {
 }
 
 /// The "one compatible entry" of an accepted bundle, with its index.
-fn picked_entry<'a>(entries: &'a Entries, device: &[u8]) -> Result<(usize, &'a Entry<'a>), Refusal> {
+fn picked_entry<'a>(reading: Reading, entries: &'a Entries, device: &[u8]) -> Result<(usize, &'a Entry<'a>), Refusal> {
     let entries = entries.as_ref().map_err(|refusal| *refusal)?;
-    let device = meaning(device).ok_or(Refusal { number: QUERY, place: 0 })?;
+    let device = meaning_by(reading, device).ok_or(Refusal { number: QUERY, place: 0 })?;
     let mut found: Vec<(usize, &Entry)> =
         entries.iter().enumerate().filter(|(_, entry)| compatible(&entry.meaning, &device)).collect();
     assert!(found.len() <= 1, "an accepted bundle has two entries that are compatible with one device name");
@@ -163,7 +163,7 @@ fn picked_entry<'a>(entries: &'a Entries, device: &[u8]) -> Result<(usize, &'a E
 
 /// What the check tries, then 10: the index is not below the count.
 pub fn entry_at(bundle: &[u8], index: u64) -> Located {
-    entry_at_of(&entries(bundle), index)
+    entry_at_of(&entries(Reading::General, bundle), index)
 }
 
 /// What a call by an entry's index returns for a bundle of which this was read.
@@ -189,7 +189,7 @@ fn located_entry<'a>(entries: &'a Entries, index: u64) -> Result<&'a Entry<'a>, 
 
 /// "Normalising checks 1 to 8, 11, 12."
 pub fn normalise(bundle: &[u8], out: &mut [u8]) -> Written {
-    normalise_of(&entries(bundle), out)
+    normalise_of(&entries(Reading::General, bundle), out)
 }
 
 /// What normalising does for a bundle of which this was read.

@@ -1,11 +1,14 @@
-//! The examples of RULES B, the mistakes of RULES C, `hip` beside `hipv4`, entries by index, images that overlap, and processors with
-//! hyphens.
+//! The examples of RULES B, the mistakes of RULES C, `hip` beside `hipv4`, entries by index, images that overlap, processors with hyphens,
+//! and our own cards.
 
 use super::binaries::{read_all, Binary, Pair};
 use super::binary_writer::{write_binary, Content};
-use super::bundle::{check, entry_at, normalise, pick, Checked, Located, Picked, MAGIC_BYTES};
+use super::bundle::{
+    check, check_of, entries, entry_at, normalise, normalise_of, pick, pick_of, Checked, Located, Picked, MAGIC_BYTES,
+};
 use super::bundle_writer::{write_bundle, Record};
-use super::id::{canonical, compatible, meaning, Meaning};
+use super::id::Reading::Profile;
+use super::id::{canonical, compatible, meaning, meaning_by, Meaning};
 use super::*;
 use crate::gen::examples::*;
 
@@ -31,8 +34,12 @@ fn accepted(count: u64) -> Checked {
 
 /// The normal form, with room to spare; the bytes beyond it must stay.
 fn normal(bundle: &[u8]) -> Vec<u8> {
-    let mut out = vec![0xA5; bundle.len() + 1000];
-    let written = normalise(bundle, &mut out);
+    normal_by(|out| normalise(bundle, out), bundle.len())
+}
+
+fn normal_by(normalise: impl Fn(&mut [u8]) -> Written, length: usize) -> Vec<u8> {
+    let mut out = vec![0xA5; length + 1000];
+    let written = normalise(&mut out);
     assert_eq!((written.number, written.place), (OK, 0));
     let rest = out.split_off(written.length as usize);
     assert!(rest.iter().all(|byte| *byte == 0xA5));
@@ -493,6 +500,57 @@ fn hyphens_come_before_colons_in_normal_forms() {
     let expected =
         bundle(&[("hip-a-b-c--gfx9--x", b"1"), ("hip-a-b-c--gfx9-x:x+", b"2"), ("hip-a-b-c--gfx9:x+", b"3")]);
     assert_eq!(normal(&bytes), expected);
+}
+
+#[test]
+fn cards_by_the_profile() {
+    for (ids, device, checked, picked) in CARD_EXAMPLES {
+        let bytes = card_bundle(ids);
+        let entries = entries(Profile, &bytes);
+        let Checked { number, place, .. } = check_of(&entries);
+        assert_eq!((number, place), *checked, "{ids:?}");
+        let Picked { number, index, .. } = pick_of(Profile, &entries, device.as_bytes());
+        assert_eq!((number, index), *picked, "{ids:?}, {device}");
+    }
+}
+
+#[test]
+fn normal_forms_have_primary_names() {
+    let bytes = bundle(&[
+        ("hip-amdgcn1-amd-amdhsa--fiji", b"5"),
+        ("hip-amdgcn-amd-amdhsa--fiji", b"3"),
+        ("hip-amdgcn-amd-amdhsa-gfx700", b"2"),
+        ("hip-amdgcn-amd-amdhsa--tahiti", b"1"),
+        ("hip-amdgcn-amd-amdhsa--stoney:xnack-", b"4"),
+    ]);
+    let expected = bundle(&[
+        ("hip-amdgcn-amd-amdhsa--gfx600", b"1"),
+        ("hip-amdgcn-amd-amdhsa--gfx700", b"2"),
+        ("hip-amdgcn-amd-amdhsa--gfx803", b"3"),
+        ("hip-amdgcn-amd-amdhsa--gfx810:xnack-", b"4"),
+        ("hip-amdgcn1-amd-amdhsa--fiji", b"5"),
+    ]);
+    assert_eq!(normal_by(|out| normalise_of(&entries(Profile, &bytes), out), bytes.len()), expected);
+    assert_eq!(normal_by(|out| normalise_of(&entries(Profile, &expected), out), bytes.len()), expected);
+}
+
+#[test]
+fn limits_of_cards() {
+    let form = |length: usize, name: &str| {
+        let (kind_and_arch, tail) = ("hip-amdgcn-", format!("-c-{name}"));
+        let text = format!("{kind_and_arch}{}{tail}", "b".repeat(length - kind_and_arch.len() - tail.len()));
+        assert_eq!(text.len(), length);
+        meaning_by(Profile, text.as_bytes()).map(|meaning| canonical(&meaning).len())
+    };
+    // Two bytes shorter than the primary, and one, as long, and one byte longer, and three.
+    assert_eq!([254, 255, 256].map(|length| form(length, "-fiji")), [Some(256), None, None]);
+    assert_eq!([254, 255, 256].map(|length| form(length, "-verde")), [Some(255), Some(256), None]);
+    assert_eq!([255, 256, 257].map(|length| form(length, "-tahiti")), [Some(255), Some(256), None]);
+    assert_eq!([256, 257].map(|length| form(length, "-mullins")), [Some(255), None]);
+    assert_eq!([256, 257, 259].map(|length| form(length, "-polaris10")), [Some(253), None, None]);
+    // A primary from the fifth field has one dash more in its form.
+    assert_eq!([254, 255, 256].map(|length| form(length, "gfx803")), [Some(255), Some(256), None]);
+    assert_eq!([255, 256, 257].map(|length| form(length, "-gfx803")), [Some(255), Some(256), None]);
 }
 
 #[test]

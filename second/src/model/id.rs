@@ -1,5 +1,6 @@
-//! "Entry IDs and what they mean".
+//! "Entry IDs and what they mean", and "A profile for our own cards".
 
+use super::processors::known;
 use super::{FEATURE_LIMIT, ID_LIMIT};
 use std::borrow::Cow;
 use std::collections::BTreeMap;
@@ -27,8 +28,32 @@ pub struct Meaning<'a> {
     pub features: BTreeMap<Text<'a>, Sign>,
 }
 
-/// The meaning of an ID, or nothing where it breaks the rules.
+/// How IDs are read.
+#[derive(Clone, Copy, Debug, PartialEq, Eq)]
+pub enum Reading {
+    General,
+    /// "a stricter reading beside the general one".
+    Profile,
+}
+
+/// The meaning of an ID, or nothing where it breaks the rules. "the 256-byte limit is on the form written with the primary".
+pub fn meaning_by(reading: Reading, id: &[u8]) -> Option<Meaning<'_>> {
+    let as_spelled = spelled_meaning(id)?;
+    let meaning = match reading {
+        Reading::General => as_spelled,
+        Reading::Profile => profile(as_spelled)?,
+    };
+    let keeps_limit = canonical(&meaning).len() as u64 <= ID_LIMIT;
+    keeps_limit.then_some(meaning)
+}
+
+/// The meaning by the general reading.
 pub fn meaning(id: &[u8]) -> Option<Meaning<'_>> {
+    meaning_by(Reading::General, id)
+}
+
+/// What an ID spells, however long its canonical form is.
+fn spelled_meaning(id: &[u8]) -> Option<Meaning<'_>> {
     if id.is_empty() || id.len() as u64 > ID_LIMIT {
         return None;
     }
@@ -50,9 +75,27 @@ pub fn meaning(id: &[u8]) -> Option<Meaning<'_>> {
         && !meaning.system.is_empty()
         && fields[1..].iter().all(|field| field.iter().all(is_field_byte))
         && (meaning.features.is_empty() || meaning.processor.is_some())
-        && meaning.features.len() <= FEATURE_LIMIT
-        && canonical(&meaning).len() as u64 <= ID_LIMIT;
+        && meaning.features.len() <= FEATURE_LIMIT;
     keeps_rules.then_some(meaning)
+}
+
+/// "An unknown processor or an unsupported feature (any other name too) gets ID". "An alternative name means its primary". "All other
+/// IDs read as before."
+fn profile(meaning: Meaning) -> Option<Meaning> {
+    let name = match own_processor(&meaning) {
+        None => return Some(meaning),
+        Some(name) => name,
+    };
+    let row = known(name)?;
+    let supported = meaning.features.keys().all(|feature| row.supports(feature));
+    supported.then_some(Meaning { processor: Some(row.primary.as_bytes().into()), ..meaning })
+}
+
+/// The processor of one of our own cards: "For kind `hip`, `hipv4` or `openmp` with arch `amdgcn` and a processor".
+pub fn own_processor<'a>(meaning: &'a Meaning) -> Option<&'a [u8]> {
+    let own_kind = matches!(&meaning.kind[..], b"hip" | b"hipv4" | b"openmp");
+    let is_own = own_kind && meaning.arch[..] == *b"amdgcn";
+    meaning.processor.as_deref().filter(|_| is_own)
 }
 
 /// "An ID is cut at its first `:`." The second part is nothing where there is no `:`.

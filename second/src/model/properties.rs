@@ -1,11 +1,15 @@
-//! What RULES 8.3, 10.6, 10.7 and 16 say of the rules as a whole, tried on generated cases; and which IDs there are, tried on all short
-//! ones.
+//! What RULES 8.3, 10.6, 10.7 and 16 say of the rules as a whole, tried on generated cases by either reading; what the profile leaves as it
+//! is; and which IDs there are, tried on all short ones.
 
 use super::binaries::read_all;
 use super::binary_writer::{write_binary, PairParts};
-use super::bundle::{check, entries, entry_at_of, normalise, pick, pick_of, Checked, Entries, Entry, Located};
+use super::bundle::{check_of, entries, entry_at_of, normalise_of, pick_of, Checked, Entries, Entry, Located, Picked};
 use super::bundle_writer::write_bundle;
-use super::id::{begins_a_processor, canonical, compatible, meaning, mixed, same_meaning, Meaning};
+use super::id::{
+    begins_a_processor, canonical, compatible, meaning, meaning_by, mixed, own_processor, same_meaning, Meaning,
+    Reading,
+};
+use super::processors::known;
 use super::*;
 use crate::gen::bundles::{some_count, Draft, Offset, Row};
 use crate::gen::random::Random;
@@ -20,22 +24,37 @@ fn each_case(run: impl Fn(&mut Random)) {
     }
 }
 
-fn some_bundle(random: &mut Random) -> Draft {
-    let count = some_count(random);
-    Draft::good(random, count)
+/// Cases for each reading.
+fn each_reading(run: impl Fn(Reading, &mut Random)) {
+    for reading in [Reading::General, Reading::Profile] {
+        each_case(|random| run(reading, random));
+    }
 }
 
-fn normal_form(bundle: &[u8]) -> Vec<u8> {
+fn some_bundle(reading: Reading, random: &mut Random) -> Draft {
+    let count = some_count(random);
+    Draft::good(reading, random, count)
+}
+
+fn check(reading: Reading, bundle: &[u8]) -> Checked {
+    check_of(&entries(reading, bundle))
+}
+
+fn pick(reading: Reading, bundle: &[u8], device: &[u8]) -> Picked {
+    pick_of(reading, &entries(reading, bundle), device)
+}
+
+fn normal_form(reading: Reading, bundle: &[u8]) -> Vec<u8> {
     let mut out = vec![0; 1 << 16];
-    let written = normalise(bundle, &mut out);
+    let written = normalise_of(&entries(reading, bundle), &mut out);
     assert_eq!((written.number, written.place), (OK, 0));
     out.truncate(written.length as usize);
     out
 }
 
 /// The bytes that a pick gives, or its number.
-fn picked_bytes<'a>(bundle: &'a [u8], entries: &Entries, device: &[u8]) -> Result<&'a [u8], u64> {
-    let picked = pick_of(entries, device);
+fn picked_bytes<'a>(reading: Reading, bundle: &'a [u8], entries: &Entries, device: &[u8]) -> Result<&'a [u8], u64> {
+    let picked = pick_of(reading, entries, device);
     if picked.number != OK {
         return Err(picked.number);
     }
@@ -44,8 +63,8 @@ fn picked_bytes<'a>(bundle: &'a [u8], entries: &Entries, device: &[u8]) -> Resul
 
 /// "each entry of either has one in the other with the same kind as spelled, triple, processor, stated features and signs, and an image
 /// of the same size and bytes".
-fn same_entries(one: &[u8], other: &[u8]) -> bool {
-    let (one, other) = (entries(one).unwrap(), entries(other).unwrap());
+fn same_entries(reading: Reading, one: &[u8], other: &[u8]) -> bool {
+    let (one, other) = (entries(reading, one).unwrap(), entries(reading, other).unwrap());
     let all_in = |those: &[Entry], these: &[Entry]| {
         those.iter().all(|a| these.iter().any(|b| a.meaning == b.meaning && a.image == b.image))
     };
@@ -54,10 +73,10 @@ fn same_entries(one: &[u8], other: &[u8]) -> bool {
 
 #[test]
 fn a_canonical_form_has_its_own_meaning_and_form() {
-    each_case(|random| {
-        let expected = ids::some_meaning(random);
+    each_reading(|reading, random| {
+        let expected = ids::some_meaning_by(reading, random);
         let text = canonical(&expected);
-        assert_eq!(meaning(&text), Some(expected));
+        assert_eq!(meaning_by(reading, &text), Some(expected));
     });
 }
 
@@ -127,10 +146,10 @@ fn a_feature_changes_nothing_before_it_and_needs_a_processor() {
 
 #[test]
 fn a_device_gets_at_most_one_of_two_that_may_stand_together() {
-    each_case(|random| {
-        let one = ids::some_meaning(random);
+    each_reading(|reading, random| {
+        let one = ids::some_meaning_by(reading, random);
         let [device, other] = [(); 2].map(|_| {
-            let more = ids::with_more_features(random, &one);
+            let more = ids::with_more_features(reading, random, &one);
             ids::either_spelling(random, more)
         });
         if compatible(&one, &device) && compatible(&other, &device) {
@@ -141,10 +160,12 @@ fn a_device_gets_at_most_one_of_two_that_may_stand_together() {
 
 #[test]
 fn every_count_of_entries_is_accepted() {
-    for count in 0..=64 {
-        for case in 0..10 {
-            let draft = Draft::good(&mut Random::of_case(count, case), count as usize);
-            assert_eq!(check(&draft.bytes()), Checked { number: OK, place: 0, count });
+    for reading in [Reading::General, Reading::Profile] {
+        for count in 0..=64 {
+            for case in 0..10 {
+                let draft = Draft::good(reading, &mut Random::of_case(count, case), count as usize);
+                assert_eq!(check(reading, &draft.bytes()), Checked { number: OK, place: 0, count });
+            }
         }
     }
 }
@@ -152,16 +173,16 @@ fn every_count_of_entries_is_accepted() {
 #[test]
 fn an_index_gives_its_row_and_what_a_pick_gives() {
     each_case(|random| {
-        let draft = some_bundle(random);
+        let draft = some_bundle(Reading::General, random);
         let bundle = draft.bytes();
-        let entries = entries(&bundle);
+        let entries = entries(Reading::General, &bundle);
         for (index, row) in draft.rows.iter().enumerate() {
             let located = entry_at_of(&entries, index as u64);
             assert_eq!(part(&bundle, located.id_position, located.id_length), Some(&row.id[..]));
             assert_eq!(located.size, row.size);
         }
         assert_eq!(entry_at_of(&entries, draft.count), Located { number: NONE, ..Located::default() });
-        let picked = pick_of(&entries, &draft.device);
+        let picked = pick_of(Reading::General, &entries, &draft.device);
         if picked.number == OK {
             let located = entry_at_of(&entries, picked.index);
             assert_eq!((located.position, located.size), (picked.position, picked.size));
@@ -171,28 +192,29 @@ fn an_index_gives_its_row_and_what_a_pick_gives() {
 
 #[test]
 fn normal_form_is_accepted_and_its_own() {
-    each_case(|random| {
-        let draft = some_bundle(random);
-        let normal = normal_form(&draft.bytes());
-        assert_eq!(check(&normal).count, draft.count);
-        assert_eq!(normal_form(&normal), normal);
-        assert!(same_entries(&draft.bytes(), &normal));
+    each_reading(|reading, random| {
+        let draft = some_bundle(reading, random);
+        let normal = normal_form(reading, &draft.bytes());
+        assert_eq!(check(reading, &normal).count, draft.count);
+        assert_eq!(normal_form(reading, &normal), normal);
+        assert!(same_entries(reading, &draft.bytes(), &normal));
     });
 }
 
 #[test]
 fn normal_form_gives_the_same_picks() {
-    each_case(|random| {
-        let draft = some_bundle(random);
-        let (bundle, normal) = (draft.bytes(), normal_form(&draft.bytes()));
-        let (entries, normal_entries) = (entries(&bundle), entries(&normal));
+    each_reading(|reading, random| {
+        let draft = some_bundle(reading, random);
+        let (bundle, normal) = (draft.bytes(), normal_form(reading, &draft.bytes()));
+        let (entries, normal_entries) = (entries(reading, &bundle), entries(reading, &normal));
         let same_pick = |device: &[u8]| {
-            assert_eq!(picked_bytes(&bundle, &entries, device), picked_bytes(&normal, &normal_entries, device));
+            let picked = picked_bytes(reading, &bundle, &entries, device);
+            assert_eq!(picked, picked_bytes(reading, &normal, &normal_entries, device));
         };
         for row in &draft.rows {
-            let device = ids::with_more_features(random, &row.meaning);
+            let device = ids::with_more_features(reading, random, &row.meaning);
             let device = ids::either_spelling(random, device);
-            same_pick(&ids::spelled(random, &device));
+            same_pick(&ids::spelled(reading, random, &device));
         }
         same_pick(&draft.device);
     });
@@ -200,8 +222,8 @@ fn normal_form_gives_the_same_picks() {
 
 #[test]
 fn normal_forms_are_equal_exactly_when_the_entries_are() {
-    each_case(|random| {
-        let mut one = Draft::good(random, 3);
+    each_reading(|reading, random| {
+        let mut one = Draft::good(reading, random, 3);
         let mut other = one.clone();
         random.shuffle(&mut other.rows);
         if random.one_in(2) && !other.body.is_empty() {
@@ -214,7 +236,8 @@ fn normal_forms_are_equal_exactly_when_the_entries_are() {
         respell(random, &mut one);
         respell(random, &mut other);
         let (one, other) = (one.bytes(), other.bytes());
-        assert_eq!(normal_form(&one) == normal_form(&other), same_entries(&one, &other));
+        let equal = normal_form(reading, &one) == normal_form(reading, &other);
+        assert_eq!(equal, same_entries(reading, &one, &other));
     });
 }
 
@@ -228,39 +251,73 @@ fn respell_kinds(random: &mut Random, draft: &mut Draft) {
 /// Each ID in any spelling of its meaning.
 fn respell(random: &mut Random, draft: &mut Draft) {
     for row in &mut draft.rows {
-        row.id = ids::spelled(random, &row.meaning);
+        row.id = ids::spelled(draft.reading, random, &row.meaning);
         row.id_length = row.id.len() as u64;
     }
 }
 
 #[test]
 fn the_spelling_of_a_kind_shows_in_the_normal_form_alone() {
-    each_case(|random| {
-        let one = some_bundle(random);
+    each_reading(|reading, random| {
+        let one = some_bundle(reading, random);
         let mut other = one.clone();
         respell_kinds(random, &mut other);
         respell(random, &mut other);
         let (bundle, respelled) = (one.bytes(), other.bytes());
-        assert_eq!(check(&bundle), check(&respelled));
-        let (picked, again) = (pick(&bundle, &one.device), pick(&respelled, &one.device));
+        assert_eq!(check(reading, &bundle), check(reading, &respelled));
+        let [picked, again] = [&bundle, &respelled].map(|bundle| pick(reading, bundle, &one.device));
         assert_eq!((picked.number, picked.index, picked.size), (again.number, again.index, again.size));
         let same_kinds = one.rows.iter().zip(&other.rows).all(|(row, other)| row.meaning.kind == other.meaning.kind);
-        assert_eq!(normal_form(&bundle) == normal_form(&respelled), same_kinds);
+        assert_eq!(normal_form(reading, &bundle) == normal_form(reading, &respelled), same_kinds);
     });
 }
 
 #[test]
 fn what_follows_the_table_changes_no_answer() {
-    each_case(|random| {
-        let mut draft = some_bundle(random);
+    each_reading(|reading, random| {
+        let mut draft = some_bundle(reading, random);
         if random.one_in(2) {
             draft.scatter_images(random);
         }
         let one = draft.bytes();
         draft.body = random.bytes(draft.body.len());
         let other = draft.bytes();
-        assert_eq!(check(&one), check(&other));
-        assert_eq!(pick(&one, &draft.device), pick(&other, &draft.device));
+        assert_eq!(check(reading, &one), check(reading, &other));
+        assert_eq!(pick(reading, &one, &draft.device), pick(reading, &other, &draft.device));
+    });
+}
+
+#[test]
+fn the_profile_differs_in_our_own_cards_alone() {
+    let own_ids = ids::cards::ids();
+    each_case(|random| {
+        let any = ids::some_meaning(random);
+        let id = if random.one_in(2) { (random.choose(&own_ids).make)(random) } else { ids::as_named(random, &any) };
+        let (general, profile) = (meaning(&id), meaning_by(Reading::Profile, &id));
+        match general {
+            Some(general) if own_processor(&general).is_some() => {
+                let row = general.processor.as_deref().and_then(known);
+                let primary = row.map(|row| row.primary.as_bytes().into());
+                let expected = Meaning { processor: primary, ..general };
+                assert!(profile.is_none() || profile == Some(expected), "{}", String::from_utf8_lossy(&id));
+            }
+            as_before => assert_eq!(profile, as_before, "{}", String::from_utf8_lossy(&id)),
+        }
+    });
+}
+
+#[test]
+fn the_name_of_a_card_changes_no_answer_of_the_profile() {
+    each_case(|random| {
+        let one = some_bundle(Reading::Profile, random);
+        let mut other = one.clone();
+        respell(random, &mut other);
+        let (bundle, respelled) = (one.bytes(), other.bytes());
+        let [picked, again] = [&bundle, &respelled].map(|bundle| pick(Reading::Profile, bundle, &one.device));
+        assert_eq!((picked.number, picked.index, picked.size), (again.number, again.index, again.size));
+        let normal = normal_form(Reading::Profile, &bundle);
+        assert_eq!(normal_form(Reading::Profile, &respelled), normal);
+        assert_eq!(normal_form(Reading::General, &normal), normal);
     });
 }
 
@@ -276,7 +333,7 @@ fn image_bytes(draft: &Draft) -> Vec<BTreeSet<u64>> {
 #[test]
 fn images_share_all_their_bytes_or_none() {
     each_case(|random| {
-        let mut draft = Draft::good(random, 5);
+        let mut draft = Draft::good(Reading::General, random, 5);
         draft.body.truncate(12);
         draft.scatter_images(random);
         let images = image_bytes(&draft);
@@ -286,7 +343,7 @@ fn images_share_all_their_bytes_or_none() {
             None => Checked { number: OK, place: 0, count: 5 },
             Some(place) => Checked { number: OVERLAP, place: place as u64, count: 0 },
         };
-        assert_eq!(check(&draft.bytes()), expected, "{images:?}");
+        assert_eq!(check(Reading::General, &draft.bytes()), expected, "{images:?}");
     });
 }
 
@@ -298,7 +355,7 @@ fn what_the_bundle_writer_writes_is_read_back() {
         let mut out = vec![0; 1 << 16];
         let written = write_bundle(&case.records, &case.ids, &case.images, &mut out);
         assert_eq!(written.number, OK);
-        let entries = entries(&out[..written.length as usize]).unwrap();
+        let entries = entries(Reading::General, &out[..written.length as usize]).unwrap();
         assert_eq!(entries.len(), case.records.len());
         for (entry, record) in entries.iter().zip(&case.records) {
             assert_eq!(Some(entry.image), part(&case.images, record.image_start, record.image_length));

@@ -4,7 +4,7 @@ use Prim.Native.Nat.{_-_, _≤_}
 use mathlib.Core.Path.{refl, _∙_}
 use lib.ListN.{getD}
 use Rattle.wire.specs.Stop.{go}
-use Rattle.entry_id.specs.Rules.{idRules}
+use Rattle.entry_id.specs.Rules.{idRules, canonOf, rulesOf}
 use Rattle.entry_id.proofs.RuleLaws.{idRules-lawful}
 use Rattle.bundle.specs.Records.{noRecord, recordAt, rowOf, rowsOf}
 use Rattle.bundle_reader.specs.Slots.{Staged}
@@ -57,7 +57,7 @@ refused-requires c κs = search needs
 
 same-length : tie.Need-same-length Inv-loop μ-loop
 same-length c = let l = c .before .before .before .before .before .before .before .before .loop in
-    c .before .before .before .before .canonical-at .kept .1 .1 .1 .0 ∙ formed-lengths _ _ _ _ _ _ _ _ _ (l .inv .1 .formed) .0
+    c .before .before .before .before .canonical-at .kept .1 .1 .1 .1 .0 ∙ formed-lengths _ _ _ _ _ _ _ _ _ (l .inv .1 .formed) .0
 
 same-length-2 : tie.Need-same-length-2 Inv-loop μ-loop
 same-length-2 c = let l = c .before .before .before .before .before .before .before .before .loop in
@@ -68,14 +68,14 @@ same-length-3 c = let l = c .before .before .before .before .before .before .bef
     formed-lengths _ _ _ _ _ _ _ _ _ (l .inv .1 .formed) .2
 
 returns-2 : tie.Need-returns-2 Inv-loop μ-loop
-unfolding rowOf rowsOf recordAt
+unfolding rulesOf canonOf idRules rowOf rowsOf recordAt
 returns-2 c = let l = c .before .before .before .before .before .before .before .before .loop in
     let k = c .before .before .before .before .before .before .before .before .before .before .bad-parts in
     let a = c .before .before .before .before .before .before .before .before .before .before .before .before .before .before .before .args in
     let ids = a .ids .now in
     let r = getD (a .t2) (l .i) noRecord in
     let m = c .before .before .before .before .canonical-at in
-    let b = staged-bad idRules (rowsOf ids (a .t2)) 0 (a .len) (l .i) (l .out) _ _ _ (l .texts) (l .lens) (l .keys) (l .inv .1) ids r refl (m .last .1 .1 .1 .0) (m .result) (m .ensures .0) (m .ensures .1) go (a .n) (c .before .before .before .before .before .before .before .loop-test .taken) (c .before .if2 .taken) in
+    let b = staged-bad idRules (rowsOf ids (a .t2)) 0 (a .len) (l .i) (l .out) _ _ _ (l .texts) (l .lens) (l .keys) (l .inv .1) ids r refl (m .last .1 .1 .1 .1 .0) (m .result) (m .ensures .0) (m .ensures .1) go (a .n) (c .before .before .before .before .before .before .before .loop-test .taken) (c .before .if2 .taken) in
     (c .refused .ensures ∙ records-rest idRules ids _ (a .n) (a .t2) (k .result .number) (k .result .place) (k .ensures) (no-number _ (c .before .before .before .before .before .before .before .before .before .if1 .left)) 5 _ (b .0), formed-is idRules _ _ _ _ _ _ _ _ _ (rest-forms idRules ids 0 (a .n) (a .t2) (k .result .number) (k .result .place) (k .ensures) (no-number _ (c .before .before .before .before .before .before .before .before .before .if1 .left))) (b .1))
 
 mul-lens : tie.Need-mul-lens Inv-loop μ-loop
@@ -120,13 +120,13 @@ loop-less : tie.Need-loop-less Inv-loop μ-loop
 loop-less c = search needs
 
 loop-again : tie.Need-loop-again Inv-loop μ-loop
-unfolding rowOf rowsOf recordAt
+unfolding rulesOf canonOf idRules rowOf rowsOf recordAt
 loop-again c = let l = c .before .before .before .before .before .before .before .before .loop in
     let a = c .before .before .before .before .before .before .before .before .before .before .before .before .before .before .before .args in
     let ids = a .ids .now in
     let r = getD (a .t2) (l .i) noRecord in
     let m = c .before .before .before .before .canonical-at in
-    (omega arith, staged-more idRules (rowsOf ids (a .t2)) 0 (a .len) (l .i) (l .out) _ _ _ (l .texts) (l .lens) (l .keys) (l .inv .1) ids r refl (m .last .1 .1 .1 .0) (m .result) (m .ensures .0) (m .ensures .1) (c .before .if2 .left) _ (c .first-outside .ensures))
+    (omega arith, staged-more idRules (rowsOf ids (a .t2)) 0 (a .len) (l .i) (l .out) _ _ _ (l .texts) (l .lens) (l .keys) (l .inv .1) ids r refl (m .last .1 .1 .1 .1 .0) (m .result) (m .ensures .0) (m .ensures .1) (c .before .if2 .left) _ (c .first-outside .ensures))
 
 compare-records-requires : tie.Need-compare-records-requires Inv-loop μ-loop
 compare-records-requires c κs = let l = c .before .before .before .before .loop in

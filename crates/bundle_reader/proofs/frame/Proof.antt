@@ -2,7 +2,6 @@ use borrow.Author.Needs.{needs}
 use native.Mathlib.Omega.{arith}
 use mathlib.Core.Path.{sym, ap, _∙_}
 use Rattle.wire.specs.Stop.{stop}
-use Rattle.entry_id.specs.Rules.{idRules}
 use Rattle.bundle.specs.Table.{count}
 use Rattle.bundle_reader.proofs.StageLaws.{head-refused}
 use Rattle.bundle_reader.proofs.frame.Statement.{statement}
@@ -12,7 +11,7 @@ head-requires : tie.Need-head-requires
 head-requires c κs = search needs
 
 returns : tie.Need-returns
-returns c = head-refused idRules _ _ (c .before .head .ensures) (c .if1 .taken)
+returns c = λ R. head-refused R _ _ (c .before .head .ensures) (c .if1 .taken)
 
 word8-at-requires : tie.Need-word8-at-requires
 word8-at-requires c κs = search needs

@@ -1,8 +1,6 @@
 use borrow.Author.Needs.{needs}
-use mathlib.Core.Path.{_∙_}
-use Rattle.entry_id.specs.Rules.{idRules}
-use Rattle.entry_id.proofs.RuleLaws.{idRules-lawful}
-use Rattle.bundle_reader.proofs.ChoiceLaws.{row-fits, picked-none, picked-image}
+use native.Mathlib.Omega.{arith}
+use Rattle.bundle_reader.proofs.ChoiceLaws.{chosen-none, chosen-image}
 use Rattle.bundle_reader.proofs.pick_named.Statement.{statement}
 use Rattle.bundle_reader.proofs.pick_named.Tie as tie
 
@@ -13,15 +11,13 @@ no-image-requires : tie.Need-no-image-requires
 no-image-requires c κs = search needs
 
 returns : tie.Need-returns
-returns c = let p = c .before .before .before .before .before .before .before .before .pre in
-    λ device e. c .no-image .ensures ∙ picked-none idRules idRules-lawful _ _ _ _ _ (p .0) _ (p .1) _ (c .before .before .first-compatible .ensures) device e (c .before .if1 .taken)
+returns c = chosen-none _ _ _ _ (c .before .before .first-compatible .ensures) (c .before .if1 .taken) _ (c .no-image .ensures)
 
 row-of-requires : tie.Need-row-of-requires
-row-of-requires c κs = row-fits idRules idRules-lawful _ _ _ _ _ (c .before .before .before .before .before .before .before .pre .0) _ (c .if1 .left)
+row-of-requires c κs = λ k h. c .before .before .before .before .before .before .before .pre .0 k (omega (arith, c .if1 .left))
 
 returns-2 : tie.Need-returns-2
-returns-2 c = let p = c .before .before .before .before .before .before .before .before .pre in
-    λ device e. picked-image idRules idRules-lawful _ _ _ _ _ (p .0) _ (p .1) _ (c .before .before .first-compatible .ensures) device e (c .before .if1 .left) _ (c .row-of .ensures)
+returns-2 c = chosen-image _ _ _ _ (c .before .before .first-compatible .ensures) (c .before .if1 .left) _ (c .row-of .ensures)
 
 pub pick-named-spec : {M : Type 1} → statement M
 pick-named-spec =

@@ -6,7 +6,6 @@ use mathlib.Core.Bool.{false}
 use borrow.Author.Count.{below-more, below-none}
 use lib.ListN.{length}
 use Rattle.wire.specs.Stop.{Stop}
-use Rattle.entry_id.specs.Rules.{idRules}
 use Rattle.bundle.specs.Table.{rowStart}
 use Rattle.bundle.specs.Check.{badRow}
 use Rattle.bundle.proofs.AcceptLaws.{counted}
@@ -31,7 +30,7 @@ bad-row-requires c κs = search needs
 returns : tie.Need-returns Inv-loop μ-loop
 returns c = let l = c .before .before .before .loop in
     let p = c .before .before .before .before .before .pre in
-    table-refused idRules _ (p .0) _ (l .i) (p .1) (bad-first _ (l .i) (l .at) (l .inv .1) (l .inv .3) _ _ (omega arith) (c .before .bad-row .ensures) (c .if1 .taken)) (omega arith)
+    λ R. table-refused R _ (p .0) _ (l .i) (p .1) (bad-first _ (l .i) (l .at) (l .inv .1) (l .inv .3) _ _ (omega arith) (c .before .bad-row .ensures) (c .if1 .taken)) (omega arith)
 
 add-at : tie.Need-add-at Inv-loop μ-loop
 add-at c = omega (arith, fine _ _ _ (c .before .bad-row .ensures) (c .if1 .left) .id-in)
@@ -65,7 +64,7 @@ returns-2 : tie.Need-returns-2 Inv-loop μ-loop
 returns-2 c = let l = c .before .loop in
     let p = c .before .before .before .pre in
     let z : l .i ≡ c .before .before .before .args .n = omega arith in
-    table-passed idRules _ (p .0) _ (l .i) (p .1) (bad-none _ (l .i) (l .at) (l .inv .1) (l .inv .3) _ z) (omega arith) _ (l .inv .1 ∙ ap (rowStart _) z)
+    λ R. table-passed R _ (p .0) _ (l .i) (p .1) (bad-none _ (l .i) (l .at) (l .inv .1) (l .inv .3) _ z) (omega arith) _ (l .inv .1 ∙ ap (rowStart _) z)
 
 pub table-end-spec : {M : Type 1} → statement M
 table-end-spec =

@@ -4,43 +4,15 @@ use super::*;
 use crate::gen::ids::processors::hyphens_of;
 use crate::gen::ids::read;
 use crate::model::id::{begins_a_processor, Text};
-use crate::model::{ID, QUERY};
-
-/// What a library takes an ID to mean, or nothing where it refuses it.
-type Reading = fn(&[u8]) -> Option<Meaning<'static>>;
-
-/// The check of a library that reads IDs so.
-fn check_read(reading: Reading, bundle: &[u8]) -> Checked {
-    let checked = check(bundle);
-    if ![OK, ID, TWICE, MIXED].contains(&checked.number) {
-        return checked;
-    }
-    let meanings: Vec<Option<Meaning>> = ids(bundle).map(reading).collect();
-    let refused = refuse_at(meanings.len(), ID, |i| meanings[i].is_none());
-    let meanings: Vec<Meaning> = meanings.into_iter().flatten().collect();
-    answer(refused.and_then(|()| composition(&meanings)), bundle)
-}
-
-/// The pick of a library that reads device names so.
-fn pick_read(reading: Reading, bundle: &[u8], device: &[u8]) -> Picked {
-    let picked = pick(bundle, device);
-    if ![OK, NONE, QUERY].contains(&picked.number) {
-        return picked;
-    }
-    match reading(device) {
-        None => Picked { number: QUERY, ..Picked::default() },
-        Some(device) => pick_where(|id| compatible(&meaning(id).unwrap(), &device), bundle),
-    }
-}
 
 /// The bundle writer of a library that reads IDs so.
-fn write_read(reading: Reading, records: &[Record], ids: &[u8], images: &[u8], out: &mut [u8], field: Field) -> u64 {
+fn write_read(reader: Reader, records: &[Record], ids: &[u8], images: &[u8], out: &mut [u8], field: Field) -> u64 {
     let number = MODEL_BUNDLE_WRITER(records, ids, images, &mut out.to_vec(), Field::Number);
     if ![OK, ID].contains(&number) {
         return MODEL_BUNDLE_WRITER(records, ids, images, out, field);
     }
     let id = |record: &Record| part(ids, record.id_start, record.id_length).unwrap();
-    match refuse_at(records.len(), ID, |i| reading(id(&records[i])).is_none()) {
+    match refuse_at(records.len(), ID, |i| reader(id(&records[i])).is_none()) {
         Err(Refusal { number, place }) => field.of(Written { number, place, length: 0 }),
         Ok(()) if number == ID => field.of(Written::default()),
         Ok(()) => MODEL_BUNDLE_WRITER(records, ids, images, out, field),
@@ -143,10 +115,10 @@ fn without_hyphens(name: &[u8]) -> Vec<u8> {
 /// A pick that is not the rules.
 type PickSlip = fn(&[u8], &[u8]) -> Picked;
 
-/// A check and a pick with each reading.
+/// A check and a pick with each reader.
 macro_rules! slips {
-    ($(($name:literal, $reading:expr),)*) => {
-        &[$(($name, |bundle| check_read($reading, bundle), |bundle, device| pick_read($reading, bundle, device)),)*]
+    ($(($name:literal, $reader:expr),)*) => {
+        &[$(($name, |bundle| check_read($reader, bundle), |bundle, device| pick_read(read, $reader, bundle, device)),)*]
     };
 }
 
@@ -218,7 +190,7 @@ fn slips_of_reading_are_found() {
 #[test]
 fn reading_by_the_rules_is_no_slip() {
     let check = |bundle: &[u8]| check_read(read, bundle);
-    let pick = |bundle: &[u8], device: &[u8]| pick_read(read, bundle, device);
+    let pick = |bundle: &[u8], device: &[u8]| pick_read(read, read, bundle, device);
     run_generated(&mut bundles::Bundles::new(BundleCalls { check, pick, ..MODEL }), 1000).unwrap();
     let mut writer = writers::Writers::<records::Case>::new(|records, ids, images, out, field| {
         write_read(read, records, ids, images, out, field)

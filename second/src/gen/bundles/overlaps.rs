@@ -15,12 +15,11 @@ pub fn aims() -> Vec<BundleAim> {
 }
 
 impl Draft {
-    /// A bundle whose images lie so.
-    fn of_images(spans: &[Span], random: &mut Random) -> Draft {
-        let mut draft = Draft::good(random, spans.len());
-        draft.body = random.bytes(images::end_of(spans));
-        draft.rows.iter_mut().zip(spans).for_each(|(row, span)| row.set_span(*span));
-        draft
+    /// Another bundle, whose images lie so.
+    fn remake_with(&mut self, random: &mut Random, spans: &[Span]) {
+        self.remake(random, spans.len());
+        self.body = random.bytes(images::end_of(spans));
+        self.rows.iter_mut().zip(spans).for_each(|(row, span)| row.set_span(*span));
     }
 
     /// Each image lies anywhere, whatever else lies there.
@@ -34,7 +33,7 @@ impl Draft {
     fn some_rows<const N: usize>(&mut self, random: &mut Random) -> [usize; N] {
         if self.rows.len() < N {
             let count = random.between(N, N + 4);
-            *self = Draft::good(random, count);
+            self.remake(random, count);
         }
         let mut rows: Vec<usize> = (0..self.rows.len()).collect();
         random.shuffle(&mut rows);
@@ -75,7 +74,7 @@ impl Draft {
     }
 
     /// The images of some two rows overlap.
-    fn put_some_overlap(&mut self, random: &mut Random) {
+    pub(super) fn put_some_overlap(&mut self, random: &mut Random) {
         let rows = self.some_rows(random);
         self.put_overlap(random, rows);
     }
@@ -109,7 +108,8 @@ const POSITIONS: &[(&str, Position)] = &[
 fn two_of_many(&(name, position): &(&str, Position)) -> BundleAim {
     Aim::new("check", OVERLAP, &format!("two of many overlap: {name}"), move |draft: &mut Draft, random| {
         let count = random.between(5, 20);
-        *draft = Draft::of_images(&some_apart(random, count), random);
+        let spans = some_apart(random, count);
+        draft.remake_with(random, &spans);
         let rows = position(count, random);
         draft.put_overlap(random, rows);
     })
@@ -133,7 +133,7 @@ fn all_in_order(&(name, order): &(&str, Order)) -> [BundleAim; 2] {
                 images::reach_into_next(&mut spans, random);
             }
             order(&mut spans, random);
-            *draft = Draft::of_images(&spans, random);
+            draft.remake_with(random, &spans);
         })
     };
     [aim(OK, format!("images apart, {name}")), aim(OVERLAP, format!("images with a byte in common, {name}"))]
@@ -156,23 +156,27 @@ fn many_images_aims() -> Vec<BundleAim> {
             let mut spans = some_apart(random, count);
             let at = random.below(count);
             spans[at] = Span { start: 0, size: images::end_of(&spans) as u64 };
-            *draft = Draft::of_images(&spans, random);
+            draft.remake_with(random, &spans);
         }),
         check(OVERLAP, "images anywhere", |draft, random| {
             let count = random.between(2, 8);
-            *draft = Draft::good(random, count);
+            draft.remake(random, count);
             draft.scatter_images(random);
         }),
         check(OVERLAP, "images anywhere in a few bytes", |draft, random| {
             let (count, length) = (random.between(2, 6), random.between(2, 7));
-            *draft = Draft::good(random, count);
+            draft.remake(random, count);
             draft.body = random.bytes(length);
             draft.scatter_images(random);
         }),
-        check(OK, "64 images apart", |draft, random| *draft = Draft::of_images(&some_apart(random, 64), random))
-            .large(),
+        check(OK, "64 images apart", |draft, random| {
+            let spans = some_apart(random, 64);
+            draft.remake_with(random, &spans);
+        })
+        .large(),
         check(OVERLAP, "64 images, the last overlaps another", |draft, random| {
-            *draft = Draft::of_images(&some_apart(random, 64), random);
+            let spans = some_apart(random, 64);
+            draft.remake_with(random, &spans);
             let other = if random.one_in(2) { 62 } else { random.below(63) };
             draft.put_overlap(random, [other, 63]);
         })

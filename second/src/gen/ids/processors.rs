@@ -234,7 +234,7 @@ fn nearly_all_hyphens(random: &mut Random, start: usize, length: usize) -> Vec<u
 #[cfg(test)]
 mod tests {
     use super::*;
-    use crate::model::id::canonical;
+    use crate::model::id::{canonical, meaning};
 
     #[test]
     fn ids_have_the_fields_and_the_lengths_they_are_made_with() {

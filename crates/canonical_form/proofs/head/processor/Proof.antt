@@ -9,7 +9,8 @@ use Rattle.entry_id.specs.Text.{notColon}
 use Rattle.entry_id.specs.Scan.{Run}
 use Rattle.entry_id.proofs.ReadBack.{as-processor}
 use Rattle.entry_id.proofs.RunLaws.{run-on, head-part}
-use Rattle.canonical_form.proofs.ProcessorLaws.{field-shaped, ends-later, head-run, processor-stops, processor-ends}
+use Rattle.entry_id.proofs.ProcessorLaws.{field-shaped}
+use Rattle.canonical_form.proofs.ProcessorLaws.{ends-later, head-run, processor-stops, processor-ends}
 use native.Mathlib.Omega.{arith}
 use borrow.Author.Needs.{needs}
 use Rattle.canonical_form.proofs.head.processor.Statement.{statement}

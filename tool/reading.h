@@ -1,0 +1,18 @@
+/* How IDs are read: by the general rules, or by a profile, which has calls of its own. */
+#ifndef TOOL_READING_H
+#define TOOL_READING_H
+
+#include "offload.h"
+
+struct reading {
+    const char *profile; /* its name; null for the general rules */
+    struct offload_check_answer (*check)(const uint8_t *bundle, size_t length);
+    struct offload_pick_answer (*pick)(const uint8_t *bundle, size_t length, const uint8_t *device, size_t device_length);
+    struct offload_normalise_answer (*normalise)(const uint8_t *bundle, size_t length, uint8_t *out, size_t room);
+};
+
+#define AMDGPU "amdgpu" /* the name of the one profile there is */
+
+extern const struct reading general_reading, amdgpu_reading;
+
+#endif
