@@ -221,7 +221,7 @@ fn first_outside(first: usize, i: usize, row: EntryRecord, end: usize, len: usiz
 }
 
 // The canonical form of the ID of `len` bytes at `start`, to slot i; of length 0 where the ID breaks the rules. Through `canonical_by`, one call more for each
-// ID, a general check takes a sixth longer.
+// ID, a general check takes about a seventh longer.
 fn canonical_at(
     reading: Reading,
     s: &[u8],
