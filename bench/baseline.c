@@ -7,8 +7,8 @@
 #include <limits.h>
 #include <string.h>
 
-enum { OK, LENGTH, MAGIC, COUNT, TABLE, ID, RANGE, TWICE, MIXED, QUERY, NONE, BIG, ROOM, OVERLAP = 21 };
-enum { ENTRIES = 64, ID_LIMIT = 256, FEATURES = 8, SLOTS = 128 };
+enum { OK, LENGTH, MAGIC, COUNT, TABLE, ID, RANGE, TWICE, MIXED, QUERY, NONE, BIG, ROOM, OVERLAP = 21, RACK = 23 };
+enum { ENTRIES = 64, ID_LIMIT = 256, FEATURES = 8, NAMES = 16, SLOTS = 128 };
 static const uint64_t limit = 1073741824;
 static const uint8_t magic[24] = "__CLANG_OFFLOAD_BUNDLE__";
 
@@ -456,20 +456,27 @@ static int compatible(const struct id *entry, const struct id *device) {
     return at == entry->length;
 }
 
-static struct picked pick(enum reading reading, const uint8_t *bytes, size_t length, const uint8_t *name, size_t name_length) {
-    struct bundle bundle;
-    struct refusal refusal = read_bundle(reading, bytes, length, &bundle);
+/* What a bundle has for a device name. */
+static struct slot find(enum reading reading, const struct bundle *bundle, const uint8_t *name, size_t name_length) {
     uint8_t scratch[ID_LIMIT];
     struct id device;
     uint64_t k;
+    if (name_length == 0 || name_length > ID_LIMIT || !read_id(reading, name, (uint32_t)name_length, scratch, &device))
+        return (struct slot){QUERY, 0, 0, 0};
+    for (k = 0; k < bundle->count; k++)
+        if (compatible(&bundle->ids[k], &device))
+            return (struct slot){OK, k, bundle->entries[k].offset, bundle->entries[k].size};
+    return (struct slot){NONE, 0, 0, 0};
+}
+
+static struct picked pick(enum reading reading, const uint8_t *bytes, size_t length, const uint8_t *name, size_t name_length) {
+    struct bundle bundle;
+    struct refusal refusal = read_bundle(reading, bytes, length, &bundle);
+    struct slot slot;
     if (refusal.number != OK)
         return (struct picked){refusal.number, refusal.place, 0, 0, 0};
-    if (name_length == 0 || name_length > ID_LIMIT || !read_id(reading, name, (uint32_t)name_length, scratch, &device))
-        return (struct picked){QUERY, 0, 0, 0, 0};
-    for (k = 0; k < bundle.count; k++)
-        if (compatible(&bundle.ids[k], &device))
-            return (struct picked){OK, 0, k, bundle.entries[k].offset, bundle.entries[k].size};
-    return (struct picked){NONE, 0, 0, 0, 0};
+    slot = find(reading, &bundle, name, name_length);
+    return (struct picked){slot.number, 0, slot.index, slot.position, slot.size};
 }
 
 struct picked baseline_pick(const uint8_t *bytes, size_t length, const uint8_t *name, size_t name_length) {
@@ -478,6 +485,32 @@ struct picked baseline_pick(const uint8_t *bytes, size_t length, const uint8_t *
 
 struct picked baseline_amdgpu_pick(const uint8_t *bytes, size_t length, const uint8_t *name, size_t name_length) {
     return pick(AMDGPU, bytes, length, name, name_length);
+}
+
+/* The slot of a part of the buffer. */
+static struct slot find_part(const struct bundle *bundle, const uint8_t *buffer, size_t length, struct part part) {
+    if (part.start > length || part.length > length - part.start)
+        return (struct slot){QUERY, 0, 0, 0};
+    return find(GENERAL, bundle, buffer + part.start, part.length);
+}
+
+struct picked_each baseline_pick_each(const uint8_t *bytes, size_t length, const uint8_t *buffer, size_t buffer_length,
+                                      const struct part *names, size_t count, struct slot *slots, size_t room) {
+    struct bundle bundle;
+    struct refusal refusal = read_bundle(GENERAL, bytes, length, &bundle);
+    uint64_t word = 0, k;
+    if (refusal.number == OK && count > NAMES)
+        refusal.number = RACK;
+    if (refusal.number == OK && count > room)
+        refusal.number = ROOM;
+    if (refusal.number != OK)
+        return (struct picked_each){refusal.number, refusal.place, 0, 0, 0};
+    for (k = 0; k < count; k++) {
+        slots[k] = find_part(&bundle, buffer, buffer_length, names[k]);
+        if (slots[k].number == OK)
+            word |= (uint64_t)1 << slots[k].index;
+    }
+    return (struct picked_each){OK, 0, count, word, (uint64_t)__builtin_popcountll(word)};
 }
 
 struct located baseline_entry(const uint8_t *bytes, size_t length, uint64_t index) {

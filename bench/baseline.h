@@ -13,6 +13,20 @@ struct picked {
     uint64_t number, place, index, position, size;
 };
 
+/* A part of a buffer. */
+struct part {
+    uint64_t start, length;
+};
+
+/* What a pick gives for one of several names. */
+struct slot {
+    uint64_t number, index, position, size;
+};
+
+struct picked_each {
+    uint64_t number, place, slots, word, taken;
+};
+
 struct located {
     uint64_t number, place, position, size, id_position, id_length;
 };
@@ -23,6 +37,8 @@ struct written {
 
 struct checked baseline_check(const uint8_t *bundle, size_t length);
 struct picked baseline_pick(const uint8_t *bundle, size_t length, const uint8_t *device, size_t device_length);
+struct picked_each baseline_pick_each(const uint8_t *bundle, size_t length, const uint8_t *buffer, size_t buffer_length,
+                                      const struct part *names, size_t count, struct slot *slots, size_t room);
 struct located baseline_entry(const uint8_t *bundle, size_t length, uint64_t index);
 struct written baseline_normalise(const uint8_t *bundle, size_t length, uint8_t *out, size_t room);
 

@@ -45,6 +45,11 @@ gfx1030
 DEVICES
 
 echo
+echo 'All cards of a station in one call, here three. The exit status says whether each has an image.'
+echo
+show pick "$bundle" hip-amdgcn-amd-amdhsa--gfx906:sramecc+:xnack- hip-amdgcn-amd-amdhsa--gfx1030 hip-amdgcn-amd-amdhsa--gfx1030:cumode+
+
+echo
 echo 'Why does a gfx906 that states neither sramecc nor xnack get none? The nearest entries come first.'
 echo
 show explain "$bundle" hip-amdgcn-amd-amdhsa--gfx906 || [ $? = 4 ]

@@ -1,14 +1,15 @@
-/* Offload bundles: files that hold GPU images for several devices. Check a bundle, pick the image for a device, look at
- * each entry, write the bundle's normal form. For x86-64 Linux. docs/RULES.md has all rules in full.
+/* Offload bundles: files that hold GPU images for several devices. Check a bundle, pick the image for a device or for
+ * several, look at each entry, write the bundle's normal form. For x86-64 Linux. docs/RULES.md has all rules in full.
  *
  * A call takes any bytes: nothing needs to be checked first. Every call returns, reads only what it is given, and only
- * the normalise calls write, to their output alone. No call allocates memory or keeps anything for the next one; each
- * needs less than 64 KiB of stack. Several threads may use the same bundle at the same time.
+ * the pick_each calls write, to their slots alone, and the normalise calls, to their output alone. No call allocates
+ * memory or keeps anything for the next one; each needs less than 64 KiB of stack. Several threads may use the same
+ * bundle at the same time.
  *
  * The caller is responsible for what no call can see:
- *   - Each length is the true length of what its pointer points to.
+ *   - Each length is the true length of what its pointer points to: its bytes or, of a list of structs, its items.
  *   - Pointers must never be null, even when the length is 0.
- *   - An output shares no byte with anything else that is passed.
+ *   - An output, such as slots, shares no byte with anything else that is passed.
  *   - Nobody changes the bytes while a call runs, or between the calls that belong to one answer.
  *
  * A call returns one number, so each number of an answer has a call of its own, which does the whole job. The calls of
@@ -19,7 +20,7 @@
  * number is OFFLOAD_OK and the place is 0. One entry that breaks the rules refuses the whole bundle, for every device.
  *
  * Each call is proved to return the field of its name in the definition of its family (crates/bundle/specs), by the
- * rules of IDs that are its own (crates/entry_id/specs), and the normalise calls to leave in the whole output what the
+ * rules of IDs that are its own (crates/entry_id/specs), and the calls that write to leave in the whole output what the
  * definition says. The inline functions are plain C and not proved.
  *
  * The calls with amdgpu in their names, at the end, read some IDs more strictly: by a profile for AMD's GPUs. */
@@ -41,6 +42,7 @@ extern "C" {
 #define OFFLOAD_LIMIT UINT64_C(1073741824) /* most bytes in a container or an output */
 #define OFFLOAD_ENTRIES 64                 /* most entries in a bundle */
 #define OFFLOAD_ID_LIMIT 256               /* most bytes in an entry ID or a device name */
+#define OFFLOAD_NAMES 16                   /* most device names in one call */
 
 /* A function of this header: no warning where it is not used. */
 #define OFFLOAD_INLINE static inline __attribute__((unused))
@@ -66,8 +68,8 @@ extern "C" {
  * device name with either gets an entry with either, and a bundle that has one entry in both spellings is refused. Any
  * other two kinds differ. A canonical form, and so a normal form, keeps the kind as it is spelled. */
 
-/* The numbers that calls return. They are tried in this order, 21 after 6 and before 7: the first that applies is
- * returned. */
+/* The numbers that calls return. They are tried in this order, 21 after 6 and before 7, 23 after 8 and before 12: the
+ * first that applies is returned. */
 enum offload_number {
     OFFLOAD_OK = 0,       /* accepted */
     OFFLOAD_LENGTH = 1,   /* the container is longer than OFFLOAD_LIMIT bytes */
@@ -79,6 +81,7 @@ enum offload_number {
     OFFLOAD_OVERLAP = 21, /* an image shares a byte with an earlier entry's and is not the same span */
     OFFLOAD_TWICE = 7,    /* an earlier entry has the same meaning */
     OFFLOAD_MIXED = 8,    /* an earlier entry of equal kind, triple and processor states other feature names */
+    OFFLOAD_RACK = 23,    /* more than OFFLOAD_NAMES device names */
     OFFLOAD_QUERY = 9,    /* the device name breaks the rules of IDs */
     OFFLOAD_NONE = 10,    /* no entry is compatible with the device name; there is no entry with this index */
     OFFLOAD_BIG = 11,     /* the output would be longer than OFFLOAD_LIMIT bytes */
@@ -95,12 +98,12 @@ enum offload_number {
     OFFLOAD_END = 19      /* every binary has been read */
 };
 
-/* The name of a number: "OK", "LENGTH", .., "END", "OVERLAP"; "UNKNOWN" for a number that is not above. */
+/* The name of a number: "OK", "LENGTH", .., "END", "OVERLAP", "RACK"; "UNKNOWN" for a number that is not above. */
 OFFLOAD_INLINE const char *offload_name(uint64_t number) {
     static const char *const names[] = {
         "OK",   "LENGTH", "MAGIC", "COUNT", "TABLE", "ID",   "RANGE",   "TWICE", "MIXED", "QUERY",
         "NONE", "BIG",    "ROOM",  "HEAD",  "SPAN",  "KIND", "STRINGS", "IMAGE", "MANY",  "END",
-        "UNKNOWN", /* 20 is not in use */ "OVERLAP",
+        "UNKNOWN", /* 20 is not in use */ "OVERLAP", "UNKNOWN", /* nor is 22 */ "RACK",
     };
     return number < sizeof names / sizeof *names ? names[number] : "UNKNOWN";
 }
@@ -184,6 +187,70 @@ OFFLOAD_INLINE struct offload_pick_answer offload_pick(const uint8_t *bundle, si
         answer.size = offload_pick_size(bundle, bundle_length, device, device_length);
     } else {
         answer.place = offload_pick_place(bundle, bundle_length, device, device_length);
+    }
+    return answer;
+}
+
+/* A part of a buffer: its bytes start to start + length. */
+struct offload_part {
+    uint64_t start, length;
+};
+
+/* What offload_pick gives for one name: OFFLOAD_OK and the entry, or OFFLOAD_QUERY or OFFLOAD_NONE and three zeros. */
+struct offload_slot {
+    uint64_t number, index, position, size;
+};
+
+/* Pick the images for several devices, such as all cards of a station: slot k gets what offload_pick gives for name k,
+ * but the bundle is checked only once. The names are parts of one buffer, with anything or nothing between them; a name
+ * may stand there twice. A part that is not wholly in the buffer is no name: its slot gets OFFLOAD_QUERY.
+ * number: OFFLOAD_OK, 1 to 8 or 21 as the check returns them, OFFLOAD_RACK, or OFFLOAD_ROOM where there are fewer slots
+ *   than names. OFFLOAD_QUERY and OFFLOAD_NONE concern one name, and stay in its slot.
+ * place: as the check returns it, 0 for OFFLOAD_RACK and OFFLOAD_ROOM.
+ * slots: how many slots are written, from the first on: as many as there are names. What lies beyond is unchanged.
+ * word: bit i, of value 2 to the power of i, is set exactly when some name gets entry i.
+ * taken: how many entries some name gets, each counted once: the bits of the word that are set. */
+uint64_t offload_pick_each_number(const uint8_t *bundle, size_t bundle_length,
+                                  const uint8_t *buffer, size_t buffer_length,
+                                  const struct offload_part *names, size_t name_count,
+                                  struct offload_slot *slots, size_t slot_count);
+uint64_t offload_pick_each_place(const uint8_t *bundle, size_t bundle_length,
+                                 const uint8_t *buffer, size_t buffer_length,
+                                 const struct offload_part *names, size_t name_count,
+                                 struct offload_slot *slots, size_t slot_count);
+uint64_t offload_pick_each_slots(const uint8_t *bundle, size_t bundle_length,
+                                 const uint8_t *buffer, size_t buffer_length,
+                                 const struct offload_part *names, size_t name_count,
+                                 struct offload_slot *slots, size_t slot_count);
+uint64_t offload_pick_each_word(const uint8_t *bundle, size_t bundle_length,
+                                const uint8_t *buffer, size_t buffer_length,
+                                const struct offload_part *names, size_t name_count,
+                                struct offload_slot *slots, size_t slot_count);
+uint64_t offload_pick_each_taken(const uint8_t *bundle, size_t bundle_length,
+                                 const uint8_t *buffer, size_t buffer_length,
+                                 const struct offload_part *names, size_t name_count,
+                                 struct offload_slot *slots, size_t slot_count);
+
+struct offload_pick_each_answer {
+    uint64_t number, place, slots, word, taken;
+};
+
+OFFLOAD_INLINE struct offload_pick_each_answer offload_pick_each(const uint8_t *bundle, size_t bundle_length,
+                                                                 const uint8_t *buffer, size_t buffer_length,
+                                                                 const struct offload_part *names, size_t name_count,
+                                                                 struct offload_slot *slots, size_t slot_count) {
+    struct offload_pick_each_answer answer = {0, 0, 0, 0, 0};
+    answer.word = offload_pick_each_word(bundle, bundle_length, buffer, buffer_length,
+                                         names, name_count, slots, slot_count);
+    if (answer.word == 0) /* refused, or no name gets an entry */
+        answer.number = offload_pick_each_number(bundle, bundle_length, buffer, buffer_length,
+                                                 names, name_count, slots, slot_count);
+    if (answer.number == OFFLOAD_OK) {
+        answer.slots = name_count;
+        answer.taken = (uint64_t)__builtin_popcountll(answer.word);
+    } else {
+        answer.place = offload_pick_each_place(bundle, bundle_length, buffer, buffer_length,
+                                               names, name_count, slots, slot_count);
     }
     return answer;
 }

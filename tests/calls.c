@@ -7,7 +7,7 @@
 #include <stdlib.h>
 #include <string.h>
 
-enum { IMAGE = 5, BODY = 10, SPACE = 8192, OTHER = 7 };
+enum { IMAGE = 5, BODY = 10, SPACE = 8192, OTHER = 7, SLOTS = OFFLOAD_NAMES + 4 };
 
 static const char host[] = "host-x86_64-unknown-linux-gnu", card[] = "hip-amdgcn-amd-amdhsa-gfx906:xnack-";
 
@@ -100,6 +100,80 @@ static void pick(const char *what, const uint8_t *bundle, size_t length, const c
     expect(what, "pick_index", by->pick_index(bundle, length, name, name_length), index);
     expect(what, "pick_position", by->pick_position(bundle, length, name, name_length), position);
     expect(what, "pick_size", by->pick_size(bundle, length, name, name_length), size);
+}
+
+/* What is asked for several names, which are parts of a text: there is room for this many slots. */
+struct query {
+    const uint8_t *bundle;
+    size_t length;
+    const char *text;
+    size_t text_length;
+    const struct offload_part *names;
+    size_t count, room;
+};
+
+typedef uint64_t each(const uint8_t *, size_t, const uint8_t *, size_t, const struct offload_part *, size_t, struct offload_slot *, size_t);
+
+static void expect_slot(const char *what, const struct offload_slot *got, const struct offload_slot *want) {
+    expect(what, "slot, number", got->number, want->number);
+    expect(what, "slot, index", got->index, want->index);
+    expect(what, "slot, position", got->position, want->position);
+    expect(what, "slot, size", got->size, want->size);
+}
+
+/* The first slots are these, and all others unchanged. */
+static void expect_slots(const char *what, const struct offload_slot *got, const struct offload_slot *want, uint64_t written) {
+    struct offload_slot unchanged;
+    size_t i;
+    memset(&unchanged, OTHER, sizeof unchanged);
+    for (i = 0; i < SLOTS; i++)
+        expect_slot(what, &got[i], i < written ? &want[i] : &unchanged);
+}
+
+/* A call returns this number, and leaves these slots. */
+static void each_number(const char *what, const char *which, each *call, const struct query *query, uint64_t number,
+                        const struct offload_slot *slots, uint64_t written) {
+    struct offload_slot out[SLOTS];
+    memset(out, OTHER, sizeof out);
+    expect(what, which,
+           call(query->bundle, query->length, (const uint8_t *)query->text, query->text_length, query->names, query->count, out, query->room), number);
+    expect_slots(what, out, slots, written);
+}
+
+/* The slot of a name is what the pick for it alone gives. */
+static void single(const char *what, const struct query *query, size_t name, const struct offload_slot *want) {
+    const uint8_t *text = (const uint8_t *)query->text + query->names[name].start;
+    struct offload_pick_answer answer = offload_pick(query->bundle, query->length, text, query->names[name].length);
+    struct offload_slot slot = {0, 0, 0, 0};
+    slot.number = answer.number;
+    slot.index = answer.index;
+    slot.position = answer.position;
+    slot.size = answer.size;
+    expect_slot(what, &slot, want);
+}
+
+static void pick_each(const char *what, const struct query *query, uint64_t number, uint64_t place, const struct offload_slot *slots, uint64_t written,
+                      uint64_t word, uint64_t taken) {
+    struct offload_slot out[SLOTS];
+    struct offload_pick_each_answer answer;
+    size_t i;
+    memset(out, OTHER, sizeof out);
+    answer = offload_pick_each(query->bundle, query->length, (const uint8_t *)query->text, query->text_length, query->names, query->count, out,
+                               query->room);
+    expect_slots(what, out, slots, written);
+    expect(what, "pick_each, number", answer.number, number);
+    expect(what, "pick_each, place", answer.place, place);
+    expect(what, "pick_each, slots", answer.slots, written);
+    expect(what, "pick_each, word", answer.word, word);
+    expect(what, "pick_each, taken", answer.taken, taken);
+    each_number(what, "pick_each_number", offload_pick_each_number, query, number, slots, written);
+    each_number(what, "pick_each_place", offload_pick_each_place, query, place, slots, written);
+    each_number(what, "pick_each_slots", offload_pick_each_slots, query, written, slots, written);
+    each_number(what, "pick_each_word", offload_pick_each_word, query, word, slots, written);
+    each_number(what, "pick_each_taken", offload_pick_each_taken, query, taken, slots, written);
+    for (i = 0; i < written; i++)
+        if (query->names[i].start <= query->text_length && query->names[i].length <= query->text_length - query->names[i].start)
+            single(what, query, i, &slots[i]);
 }
 
 /* The output holds these bytes, and is otherwise unchanged; it is then made fresh again. */
@@ -489,6 +563,149 @@ static void limits(void) {
     free(many);
 }
 
+/* Several names. */
+
+/* A slot for each name. */
+static void accepted_names(const char *what, const struct query *query, const struct offload_slot *slots, uint64_t word, uint64_t taken) {
+    pick_each(what, query, OFFLOAD_OK, 0, slots, query->count, word, taken);
+}
+
+/* No slot. */
+static void refused_names(const char *what, const struct query *query, uint64_t number, uint64_t place) {
+    pick_each(what, query, number, place, NULL, 0, 0, 0);
+}
+
+/* Names for a bundle of two entries: the host, the card as hipv4, the card without its feature, "h", and the card again. */
+static void two_entries_names(void) {
+    static const char text[] = "host-x86_64-unknown-linux-gnu,hipv4-amdgcn-amd-amdhsa-gfx906:xnack-";
+    static const struct offload_part names[] = {{0, 29}, {30, 37}, {30, 30}, {0, 1}, {30, 37}};
+    static const struct offload_slot slots[] = {
+        {OFFLOAD_OK, 0, 144, IMAGE}, {OFFLOAD_OK, 1, 149, IMAGE}, {OFFLOAD_NONE, 0, 0, 0}, {OFFLOAD_QUERY, 0, 0, 0}, {OFFLOAD_OK, 1, 149, IMAGE},
+    };
+    static uint8_t bundle[SPACE];
+    size_t length = make_two(bundle, host, "HOST.", card, "CARD.");
+    struct query query = {bundle, length, text, sizeof text - 1, names, 0, SLOTS};
+
+    accepted_names("no name", &query, slots, 0, 0);
+    query.room = 0;
+    accepted_names("no name and no slot", &query, slots, 0, 0);
+    query.count = query.room = 1;
+    accepted_names("one name", &query, slots, 1, 1);
+    query.count = 2;
+    refused_names("two names, one slot", &query, OFFLOAD_ROOM, 0);
+    query.room = 0;
+    refused_names("two names, no slot", &query, OFFLOAD_ROOM, 0);
+    query.length = length - 1;
+    refused_names("no slot, and a byte short", &query, OFFLOAD_RANGE, 1);
+    query.room = SLOTS;
+    refused_names("a byte short", &query, OFFLOAD_RANGE, 1);
+    query.length = 23;
+    refused_names("no magic", &query, OFFLOAD_MAGIC, 0);
+    query.length = length;
+    accepted_names("two names", &query, slots, 3, 2);
+    query.count = 5;
+    accepted_names("two names for one entry", &query, slots, 3, 2);
+    query.names = names + 1;
+    query.count = 4;
+    accepted_names("the second entry alone", &query, slots + 1, 2, 1);
+    query.names = names + 2;
+    query.count = 2;
+    accepted_names("neither entry", &query, slots + 2, 0, 0);
+}
+
+/* Parts of a buffer: the one name in it, and others; then parts that are not in it. Some have a sum that wraps, as that of the name which starts 8 bytes
+ * before the buffer. */
+static void parts_of_a_buffer(void) {
+    static const char around[] = "host-a-b-c..host-a-b-c";
+    static const struct offload_part inside[] = {{4, 10}, {4, 9}, {5, 9}, {0, 14}, {4, 0}, {14, 0}};
+    static const struct offload_part outside[] = {
+        {4, 11}, {5, 10}, {14, 1}, {15, 0}, {15, 10}, {UINT64_MAX, 0}, {UINT64_MAX, 1}, {UINT64_MAX - 7, 10}, {4, UINT64_MAX}, {4, UINT64_MAX - 1},
+    };
+    static uint8_t bundle[SPACE];
+    struct offload_slot slots[OFFLOAD_NAMES];
+    struct query query = {bundle, make_one(bundle, "host-a-b-c"), around + 8, 14, outside, sizeof outside / sizeof *outside, SLOTS};
+    size_t i;
+    memset(slots, 0, sizeof slots);
+    for (i = 0; i < OFFLOAD_NAMES; i++)
+        slots[i].number = OFFLOAD_QUERY;
+    accepted_names("parts outside", &query, slots, 0, 0);
+    query.names = inside;
+    query.count = 1;
+    query.text_length--;
+    accepted_names("a byte outside", &query, slots, 0, 0);
+    query.text_length = 0;
+    accepted_names("a buffer of no bytes", &query, slots, 0, 0);
+    query.text_length = 14;
+    query.count = sizeof inside / sizeof *inside;
+    slots[0].number = OFFLOAD_OK;
+    slots[0].position = query.length - IMAGE;
+    slots[0].size = IMAGE;
+    accepted_names("parts inside", &query, slots, 1, 1);
+}
+
+/* As many names as there can be, of the last of as many entries as there can be, and a name too many. */
+static void many_names(void) {
+    enum { NAME = 12 }; /* the length of each */
+    static uint8_t bundle[SPACE];
+    static char text[OFFLOAD_ENTRIES * NAME + 1];
+    struct offload_part names[OFFLOAD_NAMES + 1];
+    struct offload_slot slots[OFFLOAD_NAMES + 1];
+    size_t end = make_shared(bundle, OFFLOAD_ENTRIES, IMAGE), i;
+    struct query query = {bundle, end + IMAGE, text, sizeof text - 1, names, OFFLOAD_NAMES, OFFLOAD_NAMES};
+    for (i = 0; i < OFFLOAD_ENTRIES; i++)
+        sprintf(text + i * NAME, "host-a%02u-b-c", (unsigned)i);
+    for (i = 0; i <= OFFLOAD_NAMES; i++) {
+        size_t entry = OFFLOAD_ENTRIES - 1 - i;
+        names[i].start = entry * NAME;
+        names[i].length = NAME;
+        slots[i].number = OFFLOAD_OK;
+        slots[i].index = entry;
+        slots[i].position = end;
+        slots[i].size = IMAGE;
+    }
+    accepted_names("the most names", &query, slots, UINT64_C(0xFFFF) << 48, OFFLOAD_NAMES);
+    query.room = OFFLOAD_NAMES - 1;
+    refused_names("a slot short", &query, OFFLOAD_ROOM, 0);
+    query.count = OFFLOAD_NAMES + 1;
+    refused_names("a name too many, slots short", &query, OFFLOAD_RACK, 0);
+    query.room = SLOTS;
+    refused_names("a name too many", &query, OFFLOAD_RACK, 0);
+    query.length--;
+    refused_names("a name too many, and a byte short", &query, OFFLOAD_RANGE, 0);
+    query.length++;
+    query.count = 2;
+    names[1].start = slots[1].index = 0;
+    accepted_names("the last entry and the first", &query, slots, UINT64_C(1) << 63 | 1, 2);
+}
+
+/* A name of the most bytes and one of a byte more; a bundle of no entries, and one whose images overlap. */
+static void other_bundles_names(void) {
+    static const struct offload_part names[] = {{0, OFFLOAD_ID_LIMIT}, {0, OFFLOAD_ID_LIMIT + 1}};
+    static const struct span overlap[2] = {{2, 4}, {5, 4}};
+    static uint8_t bundle[SPACE];
+    struct offload_slot slots[2] = {{OFFLOAD_OK, 0, 0, IMAGE}, {OFFLOAD_QUERY, 0, 0, 0}};
+    char text[OFFLOAD_ID_LIMIT + 1];
+    struct query query = {bundle, make_one(bundle, long_id(OFFLOAD_ID_LIMIT)), text, sizeof text, names, 2, SLOTS};
+    memcpy(text, long_id(OFFLOAD_ID_LIMIT), sizeof text);
+    slots[0].position = query.length - IMAGE;
+    accepted_names("the longest name, and one too long", &query, slots, 1, 1);
+    query.length = make_shared(bundle, 0, 0);
+    memset(&slots[0], 0, sizeof slots[0]);
+    slots[0].number = OFFLOAD_NONE;
+    accepted_names("no entries", &query, slots, 0, 0);
+    query.length = make_table(bundle, 2, two_ids, overlap) + BODY;
+    refused_names("images that overlap", &query, OFFLOAD_OVERLAP, 1);
+}
+
+/* The profile has no call for several names. */
+static void several_names(void) {
+    by = &general;
+    two_entries_names();
+    parts_of_a_buffer();
+    many_names();
+    other_bundles_names();
+}
+
 /* The profile. */
 
 /* An ID that both readings take, with the canonical form that each makes. */
@@ -626,6 +843,8 @@ static void names(void) {
     named(OFFLOAD_END + 1, "UNKNOWN");
     named(OFFLOAD_OVERLAP, "OVERLAP");
     named(OFFLOAD_OVERLAP + 1, "UNKNOWN");
+    named(OFFLOAD_RACK, "RACK");
+    named(OFFLOAD_RACK + 1, "UNKNOWN");
     named(UINT64_MAX, "UNKNOWN");
     sprintf(version, "%d.%d.%d", OFFLOAD_VERSION_MAJOR, OFFLOAD_VERSION_MINOR, OFFLOAD_VERSION_PATCH);
     expect("version", version, (uint64_t)strcmp(version, OFFLOAD_VERSION), 0);
@@ -646,6 +865,7 @@ static void alike(const struct reading *reading) {
 int main(void) {
     alike(&general);
     alike(&profile);
+    several_names();
     profile_ids();
     profile_lengths();
     profile_names();

@@ -49,6 +49,7 @@ for profile in '' ' --profile amdgpu'; do
     ends "offload check$profile" '[01]' "$offload" check FILE$profile
     ends "offload list$profile" '[01]' "$offload" list FILE$profile
     ends "offload pick$profile" '[014]' "$offload" pick FILE $target -o "$out/image"$profile
+    ends "offload pick, two devices$profile" '[014]' "$offload" pick FILE $target hip-amdgcn-amd-amdhsa--gfx1030$profile
     ends "offload explain$profile" '[014]' "$offload" explain FILE $target$profile
     ends "offload normalise$profile" '[01]' "$offload" normalise FILE -o "$out/normal"$profile
   }

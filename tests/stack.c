@@ -66,6 +66,16 @@ static void *pick(void *out) {
     return out;
 }
 
+static void *pick_each(void *out) {
+    static struct offload_part names[OFFLOAD_NAMES];
+    static struct offload_slot slots[OFFLOAD_NAMES];
+    int i;
+    for (i = 0; i < OFFLOAD_NAMES; i++)
+        names[i].length = sizeof device - 1;
+    *(uint64_t *)out = offload_pick_each_number(bundle, length, (const uint8_t *)device, sizeof device - 1, names, OFFLOAD_NAMES, slots, OFFLOAD_NAMES);
+    return out;
+}
+
 static void *normalise(void *out) {
     *(uint64_t *)out = offload_normalise_number(bundle, length, normal, sizeof normal);
     return out;
@@ -114,6 +124,7 @@ int main(void) {
         {"check", check, general_id},
         {"entry", entry_at, general_id},
         {"pick", pick, general_id},
+        {"pick for 16 names", pick_each, general_id},
         {"normalise", normalise, general_id},
         {"check by the profile", profile_check, profile_id},
         {"pick by the profile", profile_pick, profile_id},

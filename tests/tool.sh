@@ -12,6 +12,7 @@ generic=$samples/bundles/generic.bundle
 short=$samples/bundles/generic-short.bundle
 alternative=$samples/bundles/alternative.bundle
 processors=$top/docs/amdgpu-processors.tsv
+by=(--profile amdgpu)
 folder=$(mktemp -d)
 trap 'rm -rf "$folder"' EXIT
 mkdir "$folder/some files"
@@ -47,7 +48,7 @@ bundle() {
 
 # Help and version.
 statuses='*Exit status:*0  accepted*1  refused*2  bad usage*3  a file *4  no image for this device (NONE)'
-all="offload [0-9]*.[0-9]*.[0-9]*: bundles of GPU images*offload check FILE*offload pick FILE DEVICE [[]-o OUT] *$statuses"
+all="offload [0-9]*.[0-9]*.[0-9]*: bundles of GPU images*offload check FILE*offload pick FILE DEVICE.. [[]-o OUT] *$statuses"
 for word in help -h --help; do
   expect 0 "$all" '' $word
   expect 0 "offload list FILE [[]--profile amdgpu] [[]--json]*for each entry*$statuses" '' $word list
@@ -103,7 +104,7 @@ help() {
 }
 help check 'check FILE'
 help list 'list FILE'
-help pick 'pick FILE DEVICE [[]-o OUT]'
+help pick 'pick FILE DEVICE.. [[]-o OUT]'
 help explain 'explain FILE DEVICE'
 help normalise 'normalise FILE -o OUT'
 help normalize 'normalise FILE -o OUT'
@@ -134,7 +135,12 @@ usage 'missing DEVICE' pick pick "$cards"
 usage 'missing DEVICE' explain explain "$cards"
 usage 'no file name after -o' pick pick "$cards" gfx906 -o
 usage 'a second -o' pick pick "$cards" gfx906 -o one -o two
-usage 'unexpected word more' pick pick "$cards" gfx906 more
+usage 'unexpected word more' explain explain "$cards" gfx906 more
+usage 'unexpected word more' normalise normalise "$cards" more -o out
+several='-o writes one image, and there are several devices: make one pick for each'
+usage "$several" pick pick "$cards" gfx906 more -o out
+usage "$several" pick pick -o - "$cards" gfx906 gfx906 --json
+usage 'missing DEVICE' pick pick -- "$cards"
 usage 'missing -o OUT' normalise normalise "$cards"
 usage 'missing -o OUT' normalise normalize "$cards"
 usage 'missing FILE' normalise normalise -o out
@@ -262,6 +268,126 @@ expect 1 '' "$(refusal empty '2 MAGIC')" normalise empty -o new
 expect 1 "$(object empty 2 MAGIC)" '' normalise empty --json -o new
 same out kept
 holds empty kept out
+rm ./*
+
+# Several devices: a line for each, in the order given, then how many entries are taken. Standard error has for each device without an image what a
+# pick for it alone says, and the status is 1 where a device name is refused, else 4 where a device gets no image.
+one=${gfx}906:sramecc+:xnack-
+two=${gfx}1030
+one_line="$one: entry 2, offset 2602, size 2048"
+two_line="$two: entry 7, offset 14922, size 2248"
+# lines TAKEN LINE..
+lines() {
+  printf '%s\n' "${@:2}"
+  echo "entries taken: $1"
+}
+# query DEVICE: what is said of it, as a pattern.
+query() {
+  printf 'offload: %s: 9 QUERY, device "%s": The device name is not written as an entry ID must be.\n  Write it like *.' "$cards" "$1"
+}
+expect 0 "$(lines 2 "$one_line" "$two_line")" '' pick "$cards" "$one" "$two"
+expect 0 "$(lines 2 "$two_line" "$one_line")" '' pick "$cards" -- "$two" "$one"
+expect 0 "$(lines 2 "$one_line" "$two_line")" '' pick - "$one" "$two" <"$cards"
+expect 4 "$(lines 1 "$one_line" "${gfx}906: 10 NONE")" "$(none "${gfx}906")" pick "$cards" "$one" "${gfx}906"
+expect 4 "$(lines 0 "${gfx}90a: 10 NONE" "${gfx}906: 10 NONE")" "$(none "${gfx}90a")"$'\n'"$(none "${gfx}906")" pick "$cards" "${gfx}90a" "${gfx}906"
+expect 1 "$(lines 1 "gfx1030: 9 QUERY" "$two_line")" "$(query gfx1030)" pick "$cards" gfx1030 "$two"
+expect 1 "$(lines 1 "${gfx}906: 10 NONE" "$two_line" "gfx906: 9 QUERY")" "$(none "${gfx}906")"$'\n'"$(query gfx906)" pick "$cards" "${gfx}906" "$two" gfx906
+expect 1 "$(lines 0 "gfx906: 9 QUERY" "${gfx}906: 10 NONE")" "$(query gfx906)"$'\n'"$(none "${gfx}906")" pick "$cards" gfx906 "${gfx}906"
+# A device may stand twice, and several names get one entry, which is counted once.
+expect 0 "$(lines 1 "$one_line" "$one_line")" '' pick "$cards" "$one" "$one"
+expect 4 "$(lines 0 "${gfx}906: 10 NONE" "${gfx}906: 10 NONE")" "$(none "${gfx}906")"$'\n'"$(none "${gfx}906")" pick "$cards" "${gfx}906" "${gfx}906"
+name=hipv4-amdgcn-amd-amdhsa-gfx1030:cumode+
+expect 0 "$(lines 1 "$two_line" "$name:${two_line#"$two":}")" '' pick "$cards" "$two" "$name"
+# No name runs into the next, and each is told in one line, whatever it holds.
+expect 1 "$(lines 0 "${gfx}10: 10 NONE" '30: 9 QUERY')" "$(none "${gfx}10")"$'\n'"$(query 30)" pick "$cards" "${gfx}10" 30
+expect 1 "$(lines 1 ': 9 QUERY' "$two_line" ': 9 QUERY')" "$(query '')"$'\n'"$(query '')" pick "$cards" '' "$two" ''
+expect 1 "$(lines 0 '-: 9 QUERY' '-o: 9 QUERY')" "$(query -)"$'\n'"$(query -o)" pick "$cards" - -- -o
+expect 1 "$(lines 0 'a\\x0a\\x22: 9 QUERY' '\\x5c\\xff ~\\x7f: 9 QUERY')" 'offload: *' pick "$cards" $'a\n"' $'\\\xff ~\x7f'
+name=hip-$(printf 'a%.0s' {1..245})-b-c-
+expect 4 "$(lines 1 "${name}x: 10 NONE" "$two_line")" '*10 NONE*' pick "$cards" "${name}x" "$two"
+expect 1 "$(lines 1 "${name}xy: 9 QUERY" "$two_line")" '*9 QUERY*' pick "$cards" "${name}xy" "$two"
+# 16 devices, which take all eight entries and as many of 64, and 17. A bundle is refused as for one device, before the devices are counted or read.
+eight=(host-x86_64-unknown-linux-gnu "$gfx"906:sramecc{+,-}:xnack{+,-} "$gfx"90a:sramecc+:xnack{+,-} "$two")
+expect 0 "${eight[0]}: entry 0, offset 554, size 0
+*
+$one_line
+*
+$two_line
+${eight[0]}: entry 0, offset 554, size 0
+*
+$two_line
+entries taken: 8" '' pick "$cards" "${eight[@]}" "${eight[@]}"
+is 'lines of pick' "$(wc -l <../output)" 17
+too_many=$'There are more than 16 devices.\n  At most 16 devices in one call: give the others in another.'
+expect 1 '' "offload: $cards: 23 RACK: $too_many" pick "$cards" "${eight[@]}" "${eight[@]}" "$one"
+expect 1 '' "offload: standard input: 23 RACK: $too_many" pick - {1..300} <"$cards"
+expect 1 "$(object "$cards" 23 RACK)" '' pick "$cards" --json {1..17}
+bundle 0 "${ids[@]}" >many
+expect 0 "host-a58-b-c: entry 48, *
+host-a73-b-c: entry 63, offset *, size 0
+entries taken: 16" '' pick many "${ids[@]:48}"
+head -c -1 "$cards" >short
+where="entry 7 \"$two\" (offset 14922, size 2248 in a file of 17169 bytes)"
+for devices in "$one $two" "$one gfx906" "$(echo {1..17})"; do
+  # shellcheck disable=SC2086
+  expect 1 '' "$(refusal short '6 RANGE' "$where")" pick short $devices
+  # shellcheck disable=SC2086
+  expect 1 "$(object short 6 RANGE "\"place\":7,\"id\":\"$two\",\"offset\":14922,\"size\":2248,")" '' pick short $devices --json
+done
+expect 3 '' 'offload: cannot read missing: No such file or directory' pick missing "$one" "$two"
+expect 3 '' 'offload: cannot read .: Is a directory' pick . "$one" "$two"
+# In JSON one object has it all: for each device what a pick for it alone has.
+one_object="{\"number\":0,\"name\":\"OK\",\"device\":\"$one\",\"index\":2,\"offset\":2602,\"size\":2048}"
+none_object="{\"number\":10,\"name\":\"NONE\",\"device\":\"${gfx}906\",\"sentence\":\"$sentence\",\"advice\":\"$advice\"}"
+query_object='{"number":9,"name":"QUERY","device":"\\"","sentence":"The device name *","advice":"Write it like *"}'
+start="{\"file\":\"$cards\",\"number\":0,\"name\":\"OK\",\"devices\":[[]"
+expect 0 "$start$one_object,$one_object],\"taken\":1}" '' pick "$cards" "$one" "$one" --json
+expect 4 "$start$none_object,$one_object],\"taken\":1}" '' pick --json "$cards" "${gfx}906" "$one"
+expect 1 "$start$one_object,$query_object,$none_object],\"taken\":1}" '' pick "$cards" "$one" --json '"' "${gfx}906"
+# The profile has the same lines, order and limits.
+slip=${gfx}1O30
+said="offload: $cards: 9 QUERY, device \"$slip\": The profile amdgpu does not know the processor of the device name. It is \"gfx1O30\"."$'\n  *'
+expect 0 "$(lines 2 "$one_line" "$two_line")" '' pick "$cards" "$one" "${by[@]}" "$two"
+expect 4 "$(lines 1 "$one_line" "$slip: 10 NONE")" "$(none "$slip")" pick "$cards" "$one" "$slip"
+expect 1 "$(lines 1 "$one_line" "$slip: 9 QUERY")" "$said" pick "$cards" "$one" "$slip" "${by[@]}"
+expect 4 "$(lines 1 "${gfx}906: 10 NONE" "$two_line")" 'offload: *: 10 NONE, device *--profile amdgpu says *' pick "$cards" "${gfx}906" "$two" "${by[@]}"
+expect 1 "{\"file\":\"$cards\",\"profile\":\"amdgpu\",\"number\":0,\"name\":\"OK\",\"devices\":[[]$one_object,{\"number\":9,*\"processor\":\"gfx1O30\",*},$one_object],\"taken\":1}" '' \
+  pick "$cards" "$one" "$slip" "$one" "${by[@]}" --json
+expect 0 "*
+entries taken: 8" '' pick "$cards" "${eight[@]}" "${eight[@]}" "${by[@]}"
+expect 1 '' "offload: $cards: 23 RACK: $too_many" pick "$cards" "${eight[@]}" "${eight[@]}" "$slip" "${by[@]}"
+bundle 0 "${gfx}907" >unknown
+expect 1 '' "$(refusal unknown '5 ID' "entry 0 \"${gfx}907\"" 'It is "gfx907".')" pick unknown {1..17} "${by[@]}"
+# Each line is what a pick for the device alone says, and so is the status, in both readings.
+# alone FILE DEVICE OPTION..: the line for one device, made of what a pick for it says, and its status.
+alone() {
+  local text status=0
+  text=$("$offload" pick "$1" "$2" "${@:3}" 2>&1) || status=$?
+  [ $status = 0 ] || text=${text#"offload: $1: "} text=${text%%,*}
+  echo "$2: $text"
+  return $status
+}
+devices=("$one" "$two" host-x86_64-unknown-linux-gnu "${gfx}906:xnack+:sramecc-" "${gfx/--/-}9-generic:xnack-" "${gfx}11-generic" "${gfx/gfx/fiji}" "${gfx}803" \
+  "${gfx/hip/openmp}906" "${gfx/hip/hipv4}1030:cumode+" "${gfx}906:xnack" gfx906 hip)
+for sample in "${accepted[@]}"; do
+  for reading in '' --profile=amdgpu; do
+    wanted=
+    worst=0
+    for device in "${devices[@]}"; do
+      # shellcheck disable=SC2086
+      line=$(alone "$sample" "$device" $reading)
+      status=$?
+      wanted+=$line$'\n'
+      [[ $status == 0 || $worst == 1 ]] || worst=$status
+    done
+    count=$(grep -o 'entry [0-9]*' <<<"$wanted" | sort -u | wc -l)
+    # shellcheck disable=SC2086
+    expect $worst "${wanted}entries taken: $count" '*' pick "$sample" "${devices[@]}" $reading
+    # shellcheck disable=SC2086
+    expect $worst "{\"file\":\"$sample\",*,\"devices\":[[]*],\"taken\":$count}" '' pick "$sample" "${devices[@]}" $reading --json
+  done
+done
+holds many short unknown
 rm ./*
 
 head -c 31 "$cards" >-o
@@ -718,7 +844,6 @@ holds apart canonical entry image mixed normal twice
 rm ./*
 
 # The profile for AMD's GPUs. All samples keep it, and the option may stand anywhere.
-by=(--profile amdgpu)
 for sample in "${accepted[@]}"; do
   expect 0 'accepted, entries [1-8]' '' check "$sample" --profile amdgpu
   expect 0 "{\"file\":\"$sample\",\"profile\":\"amdgpu\",\"number\":0,\"name\":\"OK\",\"entries\":[1-8]}" '' check --json --profile=amdgpu "$sample"
@@ -1014,6 +1139,7 @@ full check "$cards"
 full list "$cards" --json
 full explain "$cards" "${gfx}1030"
 full pick "$cards" "${gfx}1030" -o -
+full pick "$cards" "${gfx}1030" "${gfx}1030"
 full help
 
 [ $wrong = 0 ] && echo "offload: $tried answers as expected"

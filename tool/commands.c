@@ -25,11 +25,18 @@ const struct command commands[] = {
         .name = "pick",
         .operands = {"FILE", "DEVICE"},
         .files = 1,
+        .repeats = 1,
         .output = MAY_HAVE_OUTPUT,
         .run = pick,
-        .summary = "find the image for a device; with -o, write it",
+        .summary = "find the image for a device, or for several; with -o, write it",
         .help = "Finds the one entry that fits the device, and says its index and the offset and size of its image in bytes.\n"
-                "With -o, the image is written to OUT, whole or not at all.\n",
+                "With -o, the image is written to OUT, whole or not at all.\n"
+                "\n"
+                "With several devices, at most 16, there is a line for each, in the order given: the device, a colon, and its entry,\n"
+                "offset and size, or 9 QUERY or 10 NONE. The last line says how many entries are taken, each counted once. Standard error\n"
+                "says why a device gets no image. -o is for one device: make one pick for each.\n"
+                "The exit status is 0 if every device gets an image, 4 if all their names are written as they must be but some get no\n"
+                "image (NONE), and 1 if the bundle, some device name (QUERY) or the number of devices (RACK) is refused.\n",
     },
     {
         .name = "explain",
@@ -54,6 +61,13 @@ const struct command commands[] = {
     },
     {.name = NULL},
 };
+
+int operand_count(const struct command *command) {
+    int count = 0;
+    while (command->operands[count] != NULL)
+        count++;
+    return count;
+}
 
 const struct command *find_command(const char *name) {
     const struct command *command;

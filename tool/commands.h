@@ -9,11 +9,12 @@
 
 enum status { ACCEPTED = 0, REFUSED = 1, BAD_USAGE = 2, FILE_FAILURE = 3, NO_IMAGE = 4 };
 
-enum { OPERANDS = 2 }; /* the most that a command takes */
+enum { OPERANDS = 2 }; /* the most that a command names */
 
 /* What a command is asked: its operands, those that are files with what they hold, and its options. */
 struct request {
-    const char *operands[OPERANDS];
+    char **operands;
+    int count; /* of the operands */
     struct bytes files[OPERANDS];
     const struct reading *reading; /* how IDs are read */
     const char *output;            /* the path of the output, or null */
@@ -28,6 +29,7 @@ struct command {
     const char *other_name;             /* or null */
     const char *operands[OPERANDS + 1]; /* what the help calls them; the last is null */
     int files;                          /* how many of them are files, which come first */
+    int repeats;                        /* whether the last may stand more than once */
     enum output output;
     enum status (*run)(const struct request *request);
     const char *summary; /* one line */
@@ -36,6 +38,9 @@ struct command {
 
 /* Every command; the last has no name. */
 extern const struct command commands[];
+
+/* How many operands a command names. */
+int operand_count(const struct command *command);
 
 /* The command of a name, or null. */
 const struct command *find_command(const char *name);

@@ -139,7 +139,7 @@ enum status explain(const struct request *request) {
     struct bytes bundle = request->files[0], device = text_bytes(request->operands[1]);
     struct offload_pick_answer answer = request->reading->pick(bundle.start, bundle.length, device.start, device.length);
     if (answer.number != OFFLOAD_OK && answer.number != OFFLOAD_NONE)
-        return refuse(request, answer.number, answer.place);
+        return refuse(request, request->operands[1], answer.number, answer.place);
     explain_entries(request, device);
     return answer.number == OFFLOAD_OK ? ACCEPTED : NO_IMAGE;
 }

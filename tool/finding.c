@@ -29,7 +29,7 @@ static void find_fault(const struct request *request, struct finding *finding) {
     if (finding->number == OFFLOAD_ID && finding->has_row)
         finding->fault = fault_of(request->reading, finding->row.id);
     if (finding->number == OFFLOAD_QUERY)
-        finding->fault = fault_of(request->reading, text_bytes(request->operands[1]));
+        finding->fault = fault_of(request->reading, text_bytes(finding->device));
     if (finding->fault.kind != NO_FAULT)
         finding->refusal = fault_refusal(finding->refusal.names, finding->fault.kind);
 }
@@ -39,10 +39,11 @@ static const char *kept_output(const char *output) {
     return output != NULL && strcmp(output, "-") != 0 && access(output, F_OK) == 0 ? output : NULL;
 }
 
-struct finding find_out(const struct request *request, uint64_t number, uint64_t place) {
+struct finding find_out(const struct request *request, const char *device, uint64_t number, uint64_t place) {
     struct finding finding = {0};
     finding.number = number;
     finding.refusal = refusal_of(request->reading, number);
+    finding.device = finding.refusal.names == NAMES_DEVICE ? device : NULL;
     if (finding.refusal.advice == NULL) {
         finding.looks = looks_of(request->files[0]);
         finding.refusal.advice = finding.looks.advice;

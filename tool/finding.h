@@ -20,12 +20,13 @@ struct finding {
     uint64_t earlier;
     struct row earlier_row;
 
+    const char *device; /* the device name, where that is refused, or null */
     struct fault fault; /* why a profile refuses the entry's ID, or the device name */
 
     const char *kept; /* an output that was there before and is left as it was, or null */
 };
 
-/* What is to be said of a refusal of the first operand, a file, or of the second, a device name. */
-struct finding find_out(const struct request *request, uint64_t number, uint64_t place);
+/* What is to be said of a refusal of the file, the first operand, or of a device name, which may be null where no device is refused. */
+struct finding find_out(const struct request *request, const char *device, uint64_t number, uint64_t place);
 
 #endif

@@ -5,7 +5,7 @@
 #include <stdio.h>
 #include <string.h>
 
-enum { SYNOPSIS = 26, NAME = 16 }; /* widths of columns */
+enum { SYNOPSIS = 28, NAME = 16 }; /* widths of columns */
 
 /* What the operands of commands are. */
 static const struct {
@@ -86,7 +86,7 @@ static int print_synopsis(const struct command *command) {
     int printed = printf("%s", command->name), i;
     for (i = 0; command->operands[i] != NULL; i++)
         printed += printf(" %s", command->operands[i]);
-    return printed + printf("%s", output_words(command));
+    return printed + printf("%s%s", command->repeats ? ".." : "", output_words(command));
 }
 
 static void print_row(const struct command *command) {

@@ -5,13 +5,27 @@
 #include <inttypes.h>
 
 struct json json_open(FILE *out) {
-    struct json object = {out, "{"};
+    struct json object = {out, "{", "}\n"};
     return object;
 }
 
 static void print_key(struct json *object, const char *key) {
     fprintf(object->out, "%s\"%s\":", object->separator, key);
     object->separator = ",";
+}
+
+struct json json_open_list(struct json *object, const char *key) {
+    struct json list = {object->out, "", "]"};
+    print_key(object, key);
+    putc('[', object->out);
+    return list;
+}
+
+struct json json_open_item(struct json *list) {
+    struct json object = {list->out, "{", "}"};
+    fputs(list->separator, list->out);
+    list->separator = ",";
+    return object;
 }
 
 void json_number(struct json *object, const char *key, uint64_t value) {
@@ -78,6 +92,6 @@ void json_text(struct json *object, const char *key, const char *value) {
     json_bytes(object, key, text_bytes(value));
 }
 
-void json_close(struct json *object) {
-    fputs("}\n", object->out);
+void json_close(struct json *json) {
+    fputs(json->end, json->out);
 }

@@ -51,7 +51,7 @@ enum status list(const struct request *request) {
     struct offload_check_answer answer = request->reading->check(bundle.start, bundle.length);
     struct entries entries;
     if (answer.number != OFFLOAD_OK)
-        return refuse(request, answer.number, answer.place);
+        return refuse(request, NULL, answer.number, answer.place);
     read_entries(request->reading, bundle, &entries);
     (request->json ? put_entries : print_entries)(request->answer, &entries);
     return ACCEPTED;

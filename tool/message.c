@@ -1,7 +1,7 @@
 #include "message.h"
 
 #include "finding.h"
-#include "json.h"
+#include "object.h"
 #include "offload.h"
 #include "text.h"
 
@@ -28,9 +28,9 @@ static void print_subject(const struct request *request, const struct finding *f
     if (finding->has_row && finding->refusal.names == NAMES_IMAGE)
         fprintf(stderr, " (offset %" PRIu64 ", size %" PRIu64 " in a file of %zu bytes)", finding->row.offset, finding->row.size,
                 request->files[0].length);
-    if (finding->refusal.names == NAMES_DEVICE) {
+    if (finding->device != NULL) {
         fputs(", device ", stderr);
-        print_quoted(stderr, text_bytes(request->operands[1]));
+        print_quoted(stderr, text_bytes(finding->device));
     }
 }
 
@@ -77,37 +77,40 @@ static void put_row(struct json *object, const struct finding *finding) {
     }
 }
 
-static void put_finding(const struct request *request, const struct finding *finding) {
-    struct json object = json_open(request->answer);
-    json_text(&object, "file", request->operands[0]);
-    if (request->reading->profile != NULL)
-        json_text(&object, "profile", request->reading->profile);
-    json_number(&object, "number", finding->number);
-    json_text(&object, "name", offload_name(finding->number));
+static void put_finding(struct json *object, const struct finding *finding) {
+    put_number(object, finding->number);
     if (finding->has_place)
-        json_number(&object, "place", finding->place);
+        json_number(object, "place", finding->place);
     if (finding->has_row)
-        put_row(&object, finding);
-    if (finding->refusal.names == NAMES_DEVICE)
-        json_text(&object, "device", request->operands[1]);
+        put_row(object, finding);
+    if (finding->device != NULL)
+        json_text(object, "device", finding->device);
     if (finding->fault.length > 0)
-        json_bytes(&object, finding->fault.kind == UNKNOWN_PROCESSOR ? "processor" : "feature", fault_bytes(finding));
-    json_text(&object, "sentence", finding->refusal.sentence);
+        json_bytes(object, finding->fault.kind == UNKNOWN_PROCESSOR ? "processor" : "feature", fault_bytes(finding));
+    json_text(object, "sentence", finding->refusal.sentence);
     if (finding->looks.like != NULL)
-        json_text(&object, "looks_like", finding->looks.like);
-    json_text(&object, "advice", finding->refusal.advice);
+        json_text(object, "looks_like", finding->looks.like);
+    json_text(object, "advice", finding->refusal.advice);
     if (finding->kept != NULL)
-        json_text(&object, "kept", finding->kept);
-    json_close(&object);
+        json_text(object, "kept", finding->kept);
 }
 
-enum status refuse(const struct request *request, uint64_t number, uint64_t place) {
-    struct finding finding = find_out(request, number, place);
-    if (request->json)
-        put_finding(request, &finding);
-    else
+enum status refuse(const struct request *request, const char *device, uint64_t number, uint64_t place) {
+    struct finding finding = find_out(request, device, number, place);
+    struct json object;
+    if (request->json) {
+        object = open_object(request);
+        put_finding(&object, &finding);
+        json_close(&object);
+    } else {
         print_finding(request, &finding);
+    }
     return number == OFFLOAD_NONE ? NO_IMAGE : REFUSED;
+}
+
+void put_refusal(struct json *object, const struct request *request, const char *device, uint64_t number) {
+    struct finding finding = find_out(request, device, number, 0);
+    put_finding(object, &finding);
 }
 
 static enum status fail(const struct request *request, const char *what, const char *path, const char *name, const char *why) {

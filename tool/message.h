@@ -3,9 +3,13 @@
 #define TOOL_MESSAGE_H
 
 #include "commands.h"
+#include "json.h"
 
-/* Tells a refusal of the first operand, a file, or of the second, a device name. */
-enum status refuse(const struct request *request, uint64_t number, uint64_t place);
+/* Tells a refusal of the file, the first operand, or of a device name, which may be null where no device is refused. */
+enum status refuse(const struct request *request, const char *device, uint64_t number, uint64_t place);
+
+/* Puts the refusal of a device name into an object. */
+void put_refusal(struct json *object, const struct request *request, const char *device, uint64_t number);
 
 /* Says that a file cannot be read or written, and why. */
 enum status cannot_read(const struct request *request, const char *path, const char *why);

@@ -1,5 +1,33 @@
 #include "reading.h"
 
-const struct reading general_reading = {NULL, offload_check, offload_pick, offload_normalise};
+static struct offload_slot amdgpu_slot(const uint8_t *bundle, size_t length, const uint8_t *device, size_t device_length) {
+    struct offload_pick_answer pick = offload_amdgpu_pick(bundle, length, device, device_length);
+    struct offload_slot slot = {pick.number, pick.index, pick.position, pick.size};
+    return slot;
+}
 
-const struct reading amdgpu_reading = {AMDGPU, offload_amdgpu_check, offload_amdgpu_pick, offload_amdgpu_normalise};
+/* What offload_pick_each does, by the profile, for which the library has no such call: one pick after another. Every name lies in the buffer, and there
+ * are slots for as many names as may be. */
+static struct offload_pick_each_answer amdgpu_pick_each(const uint8_t *bundle, size_t length, const uint8_t *buffer, size_t buffer_length,
+                                                        const struct offload_part *names, size_t count, struct offload_slot *slots,
+                                                        size_t slot_count) {
+    struct offload_check_answer check = offload_amdgpu_check(bundle, length);
+    struct offload_pick_each_answer answer = {check.number, check.place, 0, 0, 0};
+    (void)buffer_length;
+    (void)slot_count;
+    if (answer.number == OFFLOAD_OK && count > OFFLOAD_NAMES)
+        answer.number = OFFLOAD_RACK;
+    for (; answer.number == OFFLOAD_OK && answer.slots < count; answer.slots++) {
+        const struct offload_part *name = &names[answer.slots];
+        struct offload_slot slot = amdgpu_slot(bundle, length, buffer + name->start, name->length);
+        if (slot.number == OFFLOAD_OK)
+            answer.word |= UINT64_C(1) << slot.index;
+        slots[answer.slots] = slot;
+    }
+    answer.taken = (uint64_t)__builtin_popcountll(answer.word);
+    return answer;
+}
+
+const struct reading general_reading = {NULL, offload_check, offload_pick, offload_pick_each, offload_normalise};
+
+const struct reading amdgpu_reading = {AMDGPU, offload_amdgpu_check, offload_amdgpu_pick, amdgpu_pick_each, offload_amdgpu_normalise};

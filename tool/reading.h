@@ -8,6 +8,8 @@ struct reading {
     const char *profile; /* its name; null for the general rules */
     struct offload_check_answer (*check)(const uint8_t *bundle, size_t length);
     struct offload_pick_answer (*pick)(const uint8_t *bundle, size_t length, const uint8_t *device, size_t device_length);
+    struct offload_pick_each_answer (*pick_each)(const uint8_t *bundle, size_t length, const uint8_t *buffer, size_t buffer_length,
+                                                 const struct offload_part *names, size_t count, struct offload_slot *slots, size_t slot_count);
     struct offload_normalise_answer (*normalise)(const uint8_t *bundle, size_t length, uint8_t *out, size_t room);
 };
 

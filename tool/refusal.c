@@ -54,6 +54,7 @@ static const struct refusal refusals[] = {
                        same_meaning},
     [OFFLOAD_MIXED] = {NAMES_ID, "An earlier entry of the same kind (hip and hipv4 are one), triple and processor states other feature names.",
                        "Make the bundle again so that all entries of a processor state the same features.", other_names},
+    [OFFLOAD_RACK] = {NAMES_FILE, "There are more than 16 devices.", "At most 16 devices in one call: give the others in another.", NULL},
     [OFFLOAD_QUERY] = {NAMES_DEVICE, "The device name is not written as an entry ID must be.",
                        "Write it like hip-amdgcn-amd-amdhsa--gfx906:sramecc+:xnack- (offload help id).", NULL},
     [OFFLOAD_NONE] = {NAMES_DEVICE,

@@ -11,7 +11,10 @@ struct bytes text_bytes(const char *text);
 
 int same_bytes(struct bytes left, struct bytes right);
 
-/* Prints bytes in double quotes. A byte that is not printable ASCII, a double quote and a backslash stand as \xNN. */
+/* Prints bytes. A byte that is not printable ASCII, a double quote and a backslash stand as \xNN. */
+void print_plain(FILE *out, struct bytes bytes);
+
+/* Prints bytes so in double quotes. */
 void print_quoted(FILE *out, struct bytes bytes);
 
 #endif

@@ -65,28 +65,39 @@ static enum wish read_option(const struct command *command, char ***words, struc
     return request->output == NULL ? wrong(command, "no file name after", option) : WISH_RUN;
 }
 
-static enum wish nothing_missing(const struct command *command, int count, const struct request *request) {
-    if (command->operands[count] != NULL)
-        return wrong(command, "missing", command->operands[count]);
+/* Takes an operand, which moves to its place at the front of the words. */
+static enum wish take_operand(const struct command *command, char *word, struct request *request) {
+    if (request->count >= operand_count(command) && !command->repeats)
+        return wrong(command, "unexpected word", word);
+    request->operands[request->count++] = word;
+    return WISH_RUN;
+}
+
+/* What shows when every word is read. */
+static enum wish look_over(const struct command *command, const struct request *request) {
+    int wanted = operand_count(command);
+    if (request->count < wanted)
+        return wrong(command, "missing", command->operands[request->count]);
     if (command->output == NEEDS_OUTPUT && request->output == NULL)
         return wrong(command, "missing", "-o OUT");
+    if (request->count > wanted && request->output != NULL)
+        return wrong(command, "-o writes one image, and there are several devices: make one pick for each", "");
     return WISH_RUN;
 }
 
 enum wish read_words(const struct command *command, char **words, struct request *request) {
-    int options = 1, count = 0;
+    int options = 1;
+    request->operands = words;
     for (; *words != NULL; words++) {
         enum wish wish = WISH_RUN;
         if (options && strcmp(*words, "--") == 0)
             options = 0;
         else if (options && is_option(*words))
             wish = read_option(command, &words, request);
-        else if (command->operands[count] == NULL)
-            wish = wrong(command, "unexpected word", *words);
         else
-            request->operands[count++] = *words;
+            wish = take_operand(command, *words, request);
         if (wish != WISH_RUN)
             return wish;
     }
-    return nothing_missing(command, count, request);
+    return look_over(command, request);
 }

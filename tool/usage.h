@@ -7,7 +7,7 @@
 /* What the words ask for: that the command runs, help about it, or nothing, since they are wrong. */
 enum wish { WISH_RUN, WISH_HELP, WISH_WRONG };
 
-/* Puts the words, the last of which is null, into a request. What is wrong is told. */
+/* Puts the words, the last of which is null, into a request: its operands move to the front of them. What is wrong is told. */
 enum wish read_words(const struct command *command, char **words, struct request *request);
 
 int is_option(const char *word);

@@ -27,6 +27,15 @@ struct CPicked {
 }
 
 #[repr(C)]
+struct CPickedEach {
+    number: u64,
+    place: u64,
+    slots: u64,
+    word: u64,
+    taken: u64,
+}
+
+#[repr(C)]
 struct CLocated {
     number: u64,
     place: u64,
@@ -46,6 +55,16 @@ struct CWritten {
 extern "C" {
     fn baseline_check(bundle: *const u8, length: usize) -> CChecked;
     fn baseline_pick(bundle: *const u8, length: usize, device: *const u8, device_length: usize) -> CPicked;
+    fn baseline_pick_each(
+        bundle: *const u8,
+        length: usize,
+        buffer: *const u8,
+        buffer_length: usize,
+        names: *const [u64; 2],
+        count: usize,
+        slots: *mut [u64; 4],
+        room: usize,
+    ) -> CPickedEach;
     fn baseline_entry(bundle: *const u8, length: usize, index: u64) -> CLocated;
     fn baseline_normalise(bundle: *const u8, length: usize, out: *mut u8, room: usize) -> CWritten;
     fn baseline_amdgpu_check(bundle: *const u8, length: usize) -> CChecked;
@@ -79,6 +98,24 @@ pub fn check(bundle: &[u8]) -> Checked {
 pub fn pick(bundle: &[u8], device: &[u8]) -> Picked {
     // SAFETY: the slices are as long as they say.
     unsafe { baseline_pick(bundle.as_ptr(), bundle.len(), device.as_ptr(), device.len()) }.into()
+}
+
+/// The word.
+pub fn pick_each(bundle: &[u8], buffer: &[u8], names: &[[u64; 2]], slots: &mut [[u64; 4]]) -> u64 {
+    // SAFETY: the slices are as long as they say, and the slots share no byte with the others.
+    let picked = unsafe {
+        baseline_pick_each(
+            bundle.as_ptr(),
+            bundle.len(),
+            buffer.as_ptr(),
+            buffer.len(),
+            names.as_ptr(),
+            names.len(),
+            slots.as_mut_ptr(),
+            slots.len(),
+        )
+    };
+    picked.word
 }
 
 pub fn entry(bundle: &[u8], index: u64) -> Located {

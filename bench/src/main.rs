@@ -1,11 +1,12 @@
-//! Times the library: `bench TOOL FOLDER`, with the tool to run and a folder for files, or a part alone: `bench order`, the order of two IDs, or
-//! `bench profile`, the profile for AMD's GPUs. Prints tables for docs/BENCHMARKS.md.
+//! Times the library: `bench TOOL FOLDER`, with the tool to run and a folder for files, or a part alone: `bench order`, the order of two IDs,
+//! `bench profile`, the profile for AMD's GPUs, or `bench each`, picks for several names. Prints tables for docs/BENCHMARKS.md.
 
 mod baseline;
 mod baseline_binaries;
 mod binaries;
 mod bundles;
 mod clock;
+mod each;
 mod library;
 mod llvm;
 mod order;
@@ -20,9 +21,10 @@ fn main() {
     match words.iter().map(String::as_str).collect::<Vec<_>>().as_slice() {
         ["order"] => order::ids(),
         ["profile"] => profile::jobs(),
+        ["each"] => each::jobs(),
         [tool, work] => all(tool, work),
         _ => {
-            eprintln!("bench TOOL FOLDER, bench order, or bench profile");
+            eprintln!("bench TOOL FOLDER, bench order, bench profile, or bench each");
             exit(2)
         }
     }
@@ -34,6 +36,7 @@ fn all(tool: &str, work: &str) {
     baseline::compare(5000);
     bundles::jobs();
     bundles::growth();
+    each::jobs();
     profile::jobs();
     order::ids();
     bundles::copying();

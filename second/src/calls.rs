@@ -4,8 +4,9 @@ use crate::model::binaries::{Binary, Cursor};
 use crate::model::binary_writer::Content;
 use crate::model::bundle::{check_of, entries, normalise_of, pick_of, Checked, Located, Picked};
 use crate::model::bundle_writer::Record;
+use crate::model::each::{Part, PickedEach, Slot};
 use crate::model::id::Reading::Profile;
-use crate::model::{binaries, binary_writer, bundle, bundle_writer, Written};
+use crate::model::{binaries, binary_writer, bundle, bundle_writer, each, Written};
 
 /// A C call that writes returns one number of what it has to return. So it is called once for each, and writes each time.
 #[derive(Clone, Copy, Debug, PartialEq, Eq)]
@@ -16,11 +17,38 @@ pub enum Field {
 }
 
 impl Field {
+    pub const ALL: [Field; 3] = [Field::Number, Field::Place, Field::Length];
+
     pub fn of(self, written: Written) -> u64 {
         match self {
             Field::Number => written.number,
             Field::Place => written.place,
             Field::Length => written.length,
+        }
+    }
+}
+
+/// The same of a pick for each name, which writes slots.
+#[derive(Clone, Copy, Debug, PartialEq, Eq)]
+pub enum EachField {
+    Number,
+    Place,
+    Slots,
+    Word,
+    Taken,
+}
+
+impl EachField {
+    pub const ALL: [EachField; 5] =
+        [EachField::Number, EachField::Place, EachField::Slots, EachField::Word, EachField::Taken];
+
+    pub fn of(self, picked: PickedEach) -> u64 {
+        match self {
+            EachField::Number => picked.number,
+            EachField::Place => picked.place,
+            EachField::Slots => picked.slots,
+            EachField::Word => picked.word,
+            EachField::Taken => picked.taken,
         }
     }
 }
@@ -47,6 +75,16 @@ pub struct ReadingCalls {
     pub normalise: Normalise,
 }
 
+/// A bundle, the buffer, the names and the slots.
+pub type PickEach = fn(&[u8], &[u8], &[Part], &mut [Slot], EachField) -> u64;
+
+/// A pick for each name, and the single one that it goes by.
+#[derive(Clone, Copy)]
+pub struct EachCalls {
+    pub each: PickEach,
+    pub pick: Pick,
+}
+
 pub type BundleWriter = fn(&[Record], &[u8], &[u8], &mut [u8], Field) -> u64;
 pub type BinaryReader = fn(&[u8], Cursor) -> (Binary, Cursor);
 pub type BinaryWriter = fn(&Content, &[u8], &[u8], &mut [u8], Field) -> u64;
@@ -62,6 +100,10 @@ pub const MODEL_PROFILE: ReadingCalls = ReadingCalls {
     check: |bundle| check_of(&entries(Profile, bundle)),
     pick: |bundle, device| pick_of(Profile, &entries(Profile, bundle), device),
     normalise: |bundle, out, field| field.of(normalise_of(&entries(Profile, bundle), out)),
+};
+pub const MODEL_EACH: EachCalls = EachCalls {
+    each: |bundle, buffer, names, slots, field| field.of(each::pick_each(bundle, buffer, names, slots)),
+    pick: bundle::pick,
 };
 pub const MODEL_BUNDLE_WRITER: BundleWriter =
     |records, ids, images, out, field| field.of(bundle_writer::write_bundle(records, ids, images, out));

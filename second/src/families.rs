@@ -2,6 +2,7 @@
 
 pub mod binaries;
 pub mod bundles;
+pub mod each;
 #[cfg(test)]
 mod tests;
 pub mod writers;
@@ -107,6 +108,12 @@ impl Report {
         }
     }
 
+    /// The same where a case goes through several calls, each of which gave its number.
+    pub fn aimed_at_one(&mut self, aim: usize, numbers: &[(&str, u64)]) {
+        let own = numbers.iter().find(|(call, _)| *call == self.aims[aim].call);
+        self.aimed(aim, own.expect("a call").1);
+    }
+
     /// Numbers that never came, lines that were never met, and counts of entries that were never accepted.
     pub fn missing(&self) -> Vec<String> {
         let mut missing = self.missing_lines();
@@ -139,6 +146,23 @@ pub fn apply_aims<D>(aims: &[Aim<D>], draft: &mut D, random: &mut Random) -> Opt
     Some(aim)
 }
 
+/// How often each line is aimed at in families that run `each_aim`.
+const EACH_AIM: u64 = 8;
+
+/// Some drafts for each line, with the index of its aim: a family may have so many lines that chance would leave one out now and then.
+pub fn each_aim<D>(aims: &[Aim<D>], good: impl Fn(&mut Random) -> D) -> Vec<(usize, D)> {
+    let mut drafts = Vec::new();
+    for (index, aim) in aims.iter().enumerate() {
+        for case in 0..EACH_AIM {
+            let mut random = Random::of_case(case, index as u64);
+            let mut draft = good(&mut random);
+            (aim.make)(&mut draft, &mut random);
+            drafts.push((index, draft));
+        }
+    }
+    drafts
+}
+
 /// The index of some aim; a large one comes a quarter as often as another.
 fn some_aim<D>(aims: &[Aim<D>], random: &mut Random) -> usize {
     loop {
@@ -154,6 +178,25 @@ pub fn scratch() -> Vec<u8> {
     vec![0; 1 << 20]
 }
 
+/// Each number that a call which writes returns; with each of them it must leave these bytes in the lent output.
+pub fn numbers_of<F: Copy, const N: usize>(
+    call: &'static str,
+    fields: [F; N],
+    expected: &[u8],
+    output: &mut Output,
+    library: impl Fn(&mut [u8], F) -> u64,
+) -> Result<[u64; N], Difference> {
+    let mut numbers = [0; N];
+    for (number, field) in numbers.iter_mut().zip(fields) {
+        *number = library(output.lend(expected.len()), field);
+        if let Some(at) = output.differs_at(expected) {
+            let library = format!("number {number}, and byte {at} of the output differs");
+            return Err(Difference { call, model: WRITTEN.to_string(), library });
+        }
+    }
+    Ok(numbers)
+}
+
 /// Compares a call that writes with the model: each number that it returns, and with each of them every byte of the lent output.
 pub fn compare_writing(
     call: &'static str,
@@ -164,7 +207,7 @@ pub fn compare_writing(
     library: impl Fn(&mut [u8], Field) -> u64,
 ) -> Result<Written, Difference> {
     let ample = model(scratch);
-    let room = room.bytes(wanted_length(ample));
+    let room = room.lent(wanted_length(ample));
     let mut expected = output.pattern(room).to_vec();
     let model = match ample.number {
         OK if ample.length as usize <= room => {
@@ -176,13 +219,8 @@ pub fn compare_writing(
         // No other refusal depends on the room.
         _ => ample,
     };
-    let mut number = |field: Field| {
-        let number = library(output.lend(room), field);
-        holds(call, output.holds(&expected), WRITTEN, &number)?;
-        Ok(number)
-    };
-    let library =
-        Written { number: number(Field::Number)?, place: number(Field::Place)?, length: number(Field::Length)? };
+    let [number, place, length] = numbers_of(call, Field::ALL, &expected, output, library)?;
+    let library = Written { number, place, length };
     same(call, &model, &library)?;
     let zeros = if library.number == OK { library.place == 0 } else { library.length == 0 };
     holds(call, zeros, ZEROS, &library)?;

@@ -3,6 +3,7 @@
 pub mod binaries;
 pub mod binary_contents;
 pub mod bundles;
+pub mod each;
 pub mod examples;
 pub mod ids;
 pub mod images;
@@ -43,7 +44,7 @@ impl<Draft> Aim<Draft> {
     }
 }
 
-/// How long a lent output is, seen from the length that would be written.
+/// How long a lent output is, in bytes or in items, seen from the length that would be written.
 #[derive(Clone, Copy, Debug)]
 pub enum Room {
     Exact,
@@ -63,7 +64,7 @@ impl Room {
     }
 
     /// Outputs above a mebibyte are never lent: the model says BIG or ROOM there.
-    pub fn bytes(self, length: u128) -> usize {
+    pub fn lent(self, length: u128) -> usize {
         if length > 1 << 20 {
             return 64;
         }

@@ -1,6 +1,8 @@
 //! Memory that ends at a page which may not be touched, so that a byte read or written past the end of a lent slice is seen.
 
+use crate::model::each::{Part, Slot};
 use std::ffi::c_void;
+use std::mem::{align_of, size_of, size_of_val};
 use std::ptr::null_mut;
 
 extern "C" {
@@ -156,12 +158,57 @@ impl Output {
         let all = self.pages.end(MARGIN + expected.len());
         all[..MARGIN] == *self.pattern(MARGIN) && all[MARGIN..] == *expected
     }
+
+    /// The first byte that is not as it should be, counted from the start of the lent output: one of the margin lies before it.
+    pub fn differs_at(&self, expected: &[u8]) -> Option<isize> {
+        if self.holds(expected) {
+            return None;
+        }
+        let all = self.pages.end(MARGIN + expected.len());
+        let at = all.iter().zip(self.pattern(MARGIN).iter().chain(expected)).position(|(found, byte)| found != byte);
+        at.map(|at| at as isize - MARGIN as isize)
+    }
 }
 
 impl Default for Output {
     fn default() -> Output {
         Output::new()
     }
+}
+
+/// Items of a lent list: numbers of 64 bits as C lays them out.
+///
+/// # Safety
+/// Any bytes of an item's size are an item, and every byte of an item counts.
+pub unsafe trait Item: Copy {}
+
+// SAFETY: `repr(C)` structs of numbers of 64 bits.
+unsafe impl Item for Part {}
+unsafe impl Item for Slot {}
+
+/// The bytes of a list.
+pub fn bytes_of<T: Item>(list: &[T]) -> &[u8] {
+    // SAFETY: the same memory, and every byte of an item counts.
+    unsafe { std::slice::from_raw_parts(list.as_ptr().cast(), size_of_val(list)) }
+}
+
+/// How many items so many bytes at this place are.
+fn item_count<T: Item>(start: *const u8, length: usize) -> usize {
+    assert!(start as usize % align_of::<T>() == 0 && length % size_of::<T>() == 0, "bytes that are no list");
+    length / size_of::<T>()
+}
+
+/// The list that these bytes are. An empty one begins where they do.
+pub fn list_of<T: Item>(bytes: &[u8]) -> &[T] {
+    let count = item_count::<T>(bytes.as_ptr(), bytes.len());
+    // SAFETY: the same memory, and any bytes are items.
+    unsafe { std::slice::from_raw_parts(bytes.as_ptr().cast(), count) }
+}
+
+pub fn list_of_mut<T: Item>(bytes: &mut [u8]) -> &mut [T] {
+    let count = item_count::<T>(bytes.as_ptr(), bytes.len());
+    // SAFETY: as above, and the bytes are borrowed mutably.
+    unsafe { std::slice::from_raw_parts_mut(bytes.as_mut_ptr().cast(), count) }
 }
 
 #[cfg(test)]
@@ -196,10 +243,35 @@ mod tests {
         let pattern = output.pattern(10).to_vec();
         output.lend(10);
         assert!(output.holds(&pattern));
+        assert_eq!(output.differs_at(&pattern), None);
         output.lend(10)[3] = 0;
         assert!(!output.holds(&pattern));
+        assert_eq!(output.differs_at(&pattern), Some(3));
         output.lend(10);
         output.pages.end_mut(11)[0] ^= 1;
         assert!(!output.holds(&pattern));
+        assert_eq!(output.differs_at(&pattern), Some(-1));
+    }
+    #[test]
+    fn a_lent_list_ends_at_a_page() {
+        let parts: Vec<Part> = (0..17).map(|k| Part { start: k, length: u64::MAX - k }).collect();
+        let mut input = Input::new(1000);
+        for count in [0, 1, 17] {
+            let lent = list_of::<Part>(input.lend(bytes_of(&parts[..count]), 0));
+            assert_eq!(lent, &parts[..count]);
+            assert_eq!(lent.as_ptr_range().end as usize % PAGE, 0);
+        }
+    }
+
+    #[test]
+    fn lent_slots_are_filled_with_the_pattern() {
+        let mut output = Output::new();
+        for count in [0, 1, 40] {
+            let pattern = output.pattern(32 * count).to_vec();
+            let slots = list_of_mut::<Slot>(output.lend(pattern.len()));
+            assert_eq!((slots.len(), bytes_of(slots)), (count, &pattern[..]));
+            slots.iter_mut().for_each(|slot| slot.size ^= 1);
+            assert_eq!(output.holds(&pattern), count == 0);
+        }
     }
 }

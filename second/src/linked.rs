@@ -1,11 +1,12 @@
 //! The library's calls: those of include/offload.h, and those of crate `harness`, which has the reader and the two writers. A slice is a
 //! pointer and a length.
 
-use second::calls::{BundleCalls, Field, ReadingCalls};
+use second::calls::{BundleCalls, EachCalls, EachField, Field, ReadingCalls};
 use second::model::binaries::{Binary, Cursor, Pair};
 use second::model::binary_writer::Content;
 use second::model::bundle::{Checked, Located, Picked};
 use second::model::bundle_writer::Record;
+use second::model::each::{Part, Slot};
 
 #[link(name = "offload", kind = "static")]
 extern "C" {
@@ -37,6 +38,30 @@ extern "C" {
     fn offload_amdgpu_normalise_number(bundle: *const u8, length: usize, out: *mut u8, room: usize) -> u64;
     fn offload_amdgpu_normalise_place(bundle: *const u8, length: usize, out: *mut u8, room: usize) -> u64;
     fn offload_amdgpu_normalise_length(bundle: *const u8, length: usize, out: *mut u8, room: usize) -> u64;
+}
+
+/// The bundle, the buffer, the names and the slots.
+macro_rules! each_numbers {
+    ($($name:ident)*) => {
+        #[link(name = "offload", kind = "static")]
+        extern "C" {
+            $(fn $name(
+                bundle: *const u8,
+                length: usize,
+                buffer: *const u8,
+                buffer_length: usize,
+                names: *const Part,
+                name_count: usize,
+                slots: *mut Slot,
+                slot_count: usize,
+            ) -> u64;)*
+        }
+    };
+}
+
+each_numbers! {
+    offload_pick_each_number offload_pick_each_place offload_pick_each_slots offload_pick_each_word
+    offload_pick_each_taken
 }
 
 #[link(name = "harness", kind = "static")]
@@ -135,6 +160,8 @@ pub const PROFILE: ReadingCalls = ReadingCalls {
     normalise: |bundle, out, field| normalise(&AMDGPU, bundle, out, field),
 };
 
+pub const EACH: EachCalls = EachCalls { each: pick_each, pick: BUNDLES.pick };
+
 fn check(calls: &Numbers, bundle: &[u8]) -> Checked {
     // SAFETY: the slice is as long as it says.
     let [number, place, count] = calls.check.map(|call| unsafe { call(bundle.as_ptr(), bundle.len()) });
@@ -146,6 +173,29 @@ fn pick(calls: &Numbers, bundle: &[u8], device: &[u8]) -> Picked {
     let number = |call: PickNumber| unsafe { call(bundle.as_ptr(), bundle.len(), device.as_ptr(), device.len()) };
     let [number, place, index, position, size] = calls.pick.map(number);
     Picked { number, place, index, position, size }
+}
+
+fn pick_each(bundle: &[u8], buffer: &[u8], names: &[Part], slots: &mut [Slot], field: EachField) -> u64 {
+    let call = match field {
+        EachField::Number => offload_pick_each_number,
+        EachField::Place => offload_pick_each_place,
+        EachField::Slots => offload_pick_each_slots,
+        EachField::Word => offload_pick_each_word,
+        EachField::Taken => offload_pick_each_taken,
+    };
+    // SAFETY: the slices are as long as they say, and the slots share no byte with another.
+    unsafe {
+        call(
+            bundle.as_ptr(),
+            bundle.len(),
+            buffer.as_ptr(),
+            buffer.len(),
+            names.as_ptr(),
+            names.len(),
+            slots.as_mut_ptr(),
+            slots.len(),
+        )
+    }
 }
 
 fn entry(bundle: &[u8], index: u64) -> Located {

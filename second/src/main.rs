@@ -8,6 +8,7 @@ mod linked;
 
 use second::families::binaries::Binaries;
 use second::families::bundles::Bundles;
+use second::families::each::Each;
 use second::families::writers::Writers;
 use second::families::{Difference, Family, Report};
 use second::gen::random::Random;
@@ -50,6 +51,7 @@ fn families() -> Vec<Box<dyn Family>> {
         Box::new(Binaries::new(linked::next)),
         Box::new(Writers::<binary_contents::Case>::new(linked::write_binary)),
         Box::new(Bundles::profile(linked::PROFILE)),
+        Box::new(Each::new(linked::EACH)),
     ]
 }
 

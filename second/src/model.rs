@@ -5,6 +5,7 @@ pub mod binaries;
 pub mod binary_writer;
 pub mod bundle;
 pub mod bundle_writer;
+pub mod each;
 #[cfg(test)]
 mod examples;
 pub mod id;
@@ -34,7 +35,8 @@ pub const IMAGE: u64 = 17;
 pub const MANY: u64 = 18;
 pub const END: u64 = 19;
 pub const OVERLAP: u64 = 21;
-/// How many numbers a tally has room for: those that later calls return go up to 23.
+pub const RACK: u64 = 23;
+/// How many numbers a tally has room for: RACK is the highest.
 pub const NUMBERS: usize = 24;
 
 // "Sizes".
@@ -42,6 +44,7 @@ pub const SIZE_LIMIT: u128 = 1_073_741_824;
 pub const ENTRY_LIMIT: u64 = 64;
 pub const BINARY_LIMIT: u64 = 64;
 pub const ID_LIMIT: u64 = 256;
+pub const DEVICE_LIMIT: u64 = 16;
 pub const FEATURE_LIMIT: usize = 8;
 pub const PAIR_LIMIT: u64 = 32;
 pub const STRING_LIMIT: u64 = 256;

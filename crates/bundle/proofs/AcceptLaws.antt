@@ -1,20 +1,20 @@
 -- An accepted bundle keeps each rule, and a bundle that keeps each rule is accepted. Assumes nothing.
-use Prim.Native.Nat.{ℕ, _<_, _≤_}
-use mathlib.Core.Path.{_≡_}
+use Prim.Native.Nat.{ℕ, zero, suc, _<_, _≤_}
+use mathlib.Core.Path.{_≡_, refl, sym, ap, _∙_, subst}
 use mathlib.Core.List.{List}
 use lib.ListN.{length, take}
 use borrow.Author.Tests.{ltb-false, le-ltb}
 use Rattle.wire.specs.Bytes.{same}
 use Rattle.wire.specs.Limit.{limit}
-use Rattle.wire.specs.Stop.{Stop, go, stopAt, earlier}
+use Rattle.wire.specs.Stop.{Stop, go, _⨾_, stopAt, earlier}
 use Rattle.wire.proofs.Bools.{or-neither, neither-or, not-no, yes-not}
 use Rattle.wire.proofs.ByteLaws.{same-true, eq-same}
-use Rattle.wire.proofs.StopLaws.{⨾-both, ⨾-left, ⨾-right, stopIf-go, stopIf-no, stopAt-go, stopAt-no, stopAt-same, earlier-same, earlier-none, none-earlier}
+use Rattle.wire.proofs.StopLaws.{⨾-both, ⨾-left, ⨾-right, ⨾-next, ⨾-stop, stopIf-go, stopIf-no, stopAt-go, stopAt-no, stopAt-same, earlier-same, earlier-none, none-earlier}
 use Rattle.entry_id.specs.IdRules.{IdRules}
 use Rattle.bundle.specs.Table.{Row, magic, count, rowStart, row}
 use Rattle.bundle.specs.Check.{outside, overlapStop, headStop, tableStop, rowsStop, bundleStop, badId, meanSame, mix}
 use Rattle.bundle.specs.Accepted.{Framed, Meant, Sound, Accepted}
-use Rattle.bundle.proofs.CheckLaws.{rowFits, inside}
+use Rattle.bundle.proofs.CheckLaws.{Own, bundleStop-own, rowFits, inside}
 
 pub counted : (s : List ℕ) → headStop s .number ≡ 0 → (32 ≤ length s) × (count s ≤ 64)
 unfolding headStop
@@ -98,3 +98,11 @@ module _ (R : IdRules) where
   pub accepted-go : (s : List ℕ) → Accepted R s → bundleStop R s ≡ go
   unfolding bundleStop overlapStop
   accepted-go s a = ⨾-both _ _ (head-go s (a .frame)) (⨾-both _ _ (table-go s (a .frame)) (sound-go _ _ _ _ _ (a .sense) (stopAt-go 21 _ _ (λ i h. earlier-none _ (row s) i (a .apart i h)))))
+
+  -- a refusal whose number is not one of the check's comes after the check, which accepts
+  pub past-check : (s : List ℕ) (t : Stop) (m : ℕ) → (Own m → ⊥) → (bundleStop R s ⨾ t) .number ≡ m → Accepted R s × (t .number ≡ m)
+  past-check s t m h e = by (bundleStop R s .number) refl
+    where
+      by : (k : ℕ) → bundleStop R s .number ≡ k → Accepted R s × (t .number ≡ m)
+      by zero z = (accepted s z, ap (λ (x : Stop). x .number) (sym (⨾-next _ t z)) ∙ e)
+      by (suc k) z = absurd (h (subst Own (ap (λ (x : Stop). x .number) (sym (⨾-stop _ t k z)) ∙ e) (bundleStop-own R s)))

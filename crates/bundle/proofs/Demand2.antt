@@ -1,8 +1,10 @@
 -- Demand 2 of bundles. Assumes nothing.
 use Prim.Native.Nat.{ℕ}
-use mathlib.Core.Bool.{Bool}
-use mathlib.Core.List.{List}
-use Rattle.entry_id.specs.Meaning.{Meaning, meaning, valid}
+use mathlib.Core.Path.{_≡_}
+use mathlib.Core.Bool.{Bool, true}
+use mathlib.Core.List.{List, []}
+use Rattle.wire.specs.Bytes.{empty}
+use Rattle.entry_id.specs.Meaning.{Meaning, meaning, shaped, valid}
 use Rattle.entry_id.specs.IdRules.{IdRules, Lawful}
 use Rattle.entry_id.specs.Reads.{Reads}
 use Rattle.entry_id.specs.Rules.{idRules, rulesOf}
@@ -16,6 +18,7 @@ use Rattle.bundle.specs.Demand2.{ByMeaning, Demand2, GeneralCalls}
 use Rattle.bundle.proofs.OverlapLaws.{overlap-exact, images-apart}
 use Rattle.bundle.proofs.PlaceLaws.{place-exact}
 use Rattle.bundle.proofs.Theorems.{check-exact, pick-exact, framed-exact, table-decides}
+use Rattle.bundle.proofs.EachLaws.{each-exact}
 use Rattle.bundle.proofs.EntryAtLaws.{entry-exact}
 use Rattle.bundle.proofs.WriterLaws.{writes-read}
 
@@ -49,5 +52,14 @@ demand2 = demand2-of idRules-reads idRules-lawful
 pub profileDemand2 : Demand2 (rulesOf Profile) profileValid profileMeaning
 profileDemand2 = demand2-of profile-reads (rules-lawful Profile)
 
+-- no bytes are no ID
+nothing-broken : empty (idRules .canon []) ≡ true
+unfolding valid shaped
+nothing-broken = idRules-reads .broken []
+
 pub generalCalls : GeneralCalls
-generalCalls = record { entry = λ s i. entry-exact idRules s i; written = writes-read idRules idRules-lawful }
+generalCalls = record {
+  each = λ s buffer names slots. each-exact idRules s buffer names slots nothing-broken;
+  entry = λ s i. entry-exact idRules s i;
+  written = writes-read idRules idRules-lawful;
+}

@@ -1,16 +1,15 @@
 -- An entry by its index, case by case. Assumes nothing.
-use Prim.Native.Nat.{ℕ, zero, suc, _+_, _<_, _≤_}
+use Prim.Native.Nat.{ℕ, suc, _+_, _<_, _≤_}
 use native.Mathlib.Omega.{arith}
 use mathlib.Core.Path.{_≡_, refl, sym, ap, _∙_}
 use mathlib.Core.List.{List}
-use lib.Dec.{ltb}
 use lib.ListN.{length, take, drop, length-drop}
 use lib.Seq.{length-take-le}
-use borrow.Author.Tests.{ltb-true, ltb-false, lt-ltb, le-ltb}
+use borrow.Author.Tests.{ltb-true, ltb-false, lt-ltb, le-ltb, not-true}
 use Rattle.wire.specs.Stop.{Stop, go, stop, _⨾_, stopIf, stopWhen}
 use Rattle.wire.specs.Word.{word}
-use Rattle.wire.proofs.Bools.{byBool, not-no, yes-not}
-use Rattle.wire.proofs.StopLaws.{⨾-both, ⨾-left, ⨾-right, ⨾-stop, stopIf-go, stopIf-no}
+use Rattle.wire.proofs.Bools.{not-no, yes-not}
+use Rattle.wire.proofs.StopLaws.{⨾-both, ⨾-left, ⨾-right, ⨾-stop, stopIf-go, stopIf-no, stopIf-yes}
 use Rattle.entry_id.specs.IdRules.{IdRules}
 use Rattle.bundle.specs.Table.{count, rowStart, row, rowAt, tableEnd}
 use Rattle.bundle.specs.Check.{bundleStop, unrefused, check}
@@ -21,8 +20,8 @@ use Rattle.bundle.specs.Theorems.{imageAt}
 use Rattle.bundle.specs.EntryAt.{entryStop, entryAt, unlocated, located, pickOf, Names, EntryExact}
 use Rattle.bundle.specs.declared.Located.{Located}
 use Rattle.bundle.specs.declared.Picked.{Picked}
-use Rattle.bundle.proofs.CheckLaws.{unrefused-stop, bundleStop-own}
-use Rattle.bundle.proofs.AcceptLaws.{accepted, accepted-go}
+use Rattle.bundle.proofs.CheckLaws.{unrefused-stop}
+use Rattle.bundle.proofs.AcceptLaws.{accepted, accepted-go, past-check}
 use Rattle.bundle.proofs.PickLaws.{picked-asked, chosen-lt, pick-image}
 use Rattle.bundle.proofs.TableLaws.{rowStart-step, rowStart-mono}
 
@@ -59,14 +58,8 @@ module _ (R : IdRules) (s : List ℕ) (i : ℕ) where
   entry-is e = (accepted R s (⨾-left _ _ e), ltb-true i (count s) (not-no _ (stopIf-no 9 _ (⨾-right _ _ e))))
 
   none-is : entryAt R s i .number ≡ 10 → Accepted R s × (count s ≤ i)
-  none-is e = by (bundleStop R s .number) refl
-    where
-      by : (k : ℕ) → bundleStop R s .number ≡ k → Accepted R s × (count s ≤ i)
-      by zero z = let a = accepted R s z in
-          byBool (ltb i (count s))
-          (λ t. absurd (omega (arith, ap (λ (x : Located). x .number) (entry-found a (ltb-true i (count s) t)))))
-          (λ f. (a, ltb-false i (count s) f))
-      by (suc k) z = let n = ap (λ (x : Located). x .number) (entry-refused k z) in absurd (omega (arith, bundleStop-own R s (omega arith)))
+  unfolding entryAt entryStop
+  none-is e = let p = past-check R s _ 10 (λ o. omega (arith, o (omega arith))) e in (p .0, ltb-false i (count s) (not-true _ (stopIf-yes 9 _ (p .1))))
 
   -- ---- the bytes
 

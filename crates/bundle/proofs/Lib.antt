@@ -14,6 +14,7 @@ pub mod SameLaws
 pub mod NormalLaws
 pub mod WriterLaws
 pub mod Demand
+pub mod EachLaws
 pub mod Demand2
 pub mod EitherSpelling
 pub mod Stricter

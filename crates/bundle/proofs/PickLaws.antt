@@ -18,6 +18,7 @@ use Rattle.bundle.specs.Check.{bundleStop, badId, meanSame, mix, unrefus
 use Rattle.bundle.specs.Pick.{compatibleAt, chosen, pickStop, pick}
 use Rattle.bundle.specs.Accepted.{Accepted}
 use Rattle.bundle.specs.Theorems.{refusal, imageAt, Asked}
+use Rattle.bundle.specs.declared.Picked.{Picked}
 use Rattle.bundle.proofs.CheckLaws.{unrefused-stop}
 use Rattle.bundle.proofs.AcceptLaws.{accepted, accepted-go}
 
@@ -68,6 +69,10 @@ module _ (R : IdRules) (s device : List ℕ) where
     pub pick-image : pick R s device ≡ imageAt s (chosen R s device)
     unfolding pick unrefused
     pick-image = rw (pickStop-go picked-asked picked-any)
+
+  pub picked-lt : pick R s device .number ≡ 0 → pick R s device .index < count s
+  unfolding pick
+  picked-lt e = omega (arith, ap (λ (p : Picked). p .index) (pick-image e), chosen-lt e)
 
 -- ---- two compatible entries are one
 

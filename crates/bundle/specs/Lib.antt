@@ -8,6 +8,7 @@ pub mod EntryAt
 pub mod Records
 pub mod Layout
 pub mod Normal
+pub mod Each
 pub mod Writer
 pub mod Demand
 pub mod Demand2

@@ -23,12 +23,12 @@ roomStop len room = stopIf 11 (ltb limit len) ⨾ stopIf 12 (ltb room len)
 unfoldable pub answer : Stop → ℕ → Written
 answer t len = record { number = t .number; place = t .place; length = unrefused t len }
 
--- bytes at the start of a lent output: "Bytes of the lent output beyond that length stay as they were."
-unfoldable pub over : List ℕ → List ℕ → List ℕ
+-- bytes, or items, at the start of a lent output: "Bytes of the lent output beyond that length stay as they were."
+unfoldable pub over : {A : Type 0} → List A → List A → List A
 over bytes out = bytes ++ drop (length bytes) out
 
 -- the lent output after the call: "A refusal .. writes no output"
-unfoldable pub output : Stop → List ℕ → List ℕ → List ℕ
+unfoldable pub output : {A : Type 0} → Stop → List A → List A → List A
 output t bytes out = elim (t .number) [ zero ↦ over bytes out | suc k ↦ out ]
 
 -- ---- normalising

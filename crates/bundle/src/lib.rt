@@ -16,6 +16,16 @@ pub struct Picked {
     pub size: u64,
 }
 
+// What a pick for each of several device names returns: the refusal's number and place, or 0, 0, how many slots were written, the word whose bit i is set
+// where some name took entry i, and how many entries are taken.
+pub struct PickedEach {
+    pub number: usize,
+    pub place: usize,
+    pub slots: usize,
+    pub word: u64,
+    pub taken: usize,
+}
+
 // What a call by an entry's index returns: the refusal's number and place, or 0, 0, the position and size of the entry's image, and where its ID stands.
 pub struct Located {
     pub number: usize,

@@ -1,31 +1,31 @@
 -- The pick from a bundle that was checked. Assumes nothing.
 use Prim.Native.Nat.{ℕ, zero, suc, _≤_, _<_}
 use native.Mathlib.Omega.{arith}
-use mathlib.Core.Path.{_≡_, refl, sym, ap, ap₂, _∙_, subst}
-use mathlib.Core.Bool.{true, false}
+use mathlib.Core.Path.{_≡_, refl, sym, ap, ap₂, _∙_}
+use mathlib.Core.Bool.{Bool, true, false, not}
 use mathlib.Core.List.{List}
-use lib.Dec.{ltb}
-use borrow.Author.Tests.{ltb-true, ltb-false}
+use borrow.Author.Tests.{lt-ltb, le-ltb}
 use Rattle.wire.specs.Bytes.{empty}
-use Rattle.wire.specs.First.{first}
-use Rattle.wire.specs.Stop.{Stop, stop}
-use Rattle.wire.proofs.Bools.{byBool}
-use Rattle.wire.proofs.FirstLaws.{first-same, first-at, first-before}
+use Rattle.wire.specs.First.{first, anyBelow}
+use Rattle.wire.specs.Stop.{Stop, stop, _⨾_, stopIf, stopWhen}
+use Rattle.wire.proofs.FirstLaws.{first-same, any-same}
+use Rattle.wire.proofs.StopLaws.{⨾-go}
 use Rattle.entry_id.specs.IdRules.{IdRules, Lawful}
 use Rattle.bundle.specs.Table.{count, rowStart, row}
-use Rattle.bundle.specs.Check.{bundleStop, check}
-use Rattle.bundle.specs.Pick.{compatibleAt, pick}
+use Rattle.bundle.specs.Check.{bundleStop, unrefused, check}
+use Rattle.bundle.specs.Pick.{compatibleAt, chosen, pickStop, pick}
 use Rattle.bundle.specs.Accepted.{Accepted}
-use Rattle.bundle.specs.Theorems.{refusal, Asked}
+use Rattle.bundle.specs.Theorems.{refusal, imageAt}
 use Rattle.bundle.specs.Records.{rowOf}
 use Rattle.bundle_reader.specs.Examined.{heldRow, text, formsOf}
-use Rattle.bundle_reader.specs.Slots.{Room, Formed, Pickable, Known, Chosen}
+use Rattle.bundle_reader.specs.Slots.{Room, Formed, Pickable, Known, choice}
+use Rattle.bundle_reader.specs.declared.Choice.{Choice}
 use Rattle.bundle.specs.declared.Checked.{Checked}
 use Rattle.bundle.specs.declared.EntryRecord.{EntryRecord}
 use Rattle.bundle.specs.declared.Picked.{Picked}
 use Rattle.bundle.proofs.CheckLaws.{unrefused-go}
-use Rattle.bundle.proofs.AcceptLaws.{accepted}
-use Rattle.bundle.proofs.PickLaws.{pick-refused, pick-query, pick-none, pick-found}
+use Rattle.bundle.proofs.AcceptLaws.{accepted, accepted-go}
+use Rattle.bundle.proofs.PickLaws.{refused-by, pick-refused, pick-image, picked-lt}
 use Rattle.bundle_reader.proofs.RowLaws.{row-is}
 use Rattle.bundle_reader.proofs.SlotLaws.{held, formed-texts}
 use Rattle.bundle_reader.proofs.StageLaws.{all-formed, formed-is}
@@ -57,51 +57,101 @@ module _ (R : IdRules) (L : Lawful R) (s texts₀ lens₀ keys₀ texts lens key
 
 -- ---- the pick then
 
-module _ (R : IdRules) (s device : List ℕ) where
-  pub picked-stop : (t : Stop) → t ≡ bundleStop R s → 0 < t .number → refusal (t .number) (t .place) ≡ pick R s device
-  picked-stop t e h = cases (t .number) refl
-    where
-      cases : (k : ℕ) → t .number ≡ k → refusal (t .number) (t .place) ≡ pick R s device
-      cases zero z = absurd (omega arith)
-      cases (suc k) z = ap (λ (u : Stop). refusal (u .number) (u .place)) e ∙ sym (pick-refused R s device k (ap (λ (u : Stop). u .number) (sym e) ∙ z))
+pub picked-stop : (R : IdRules) (s device : List ℕ) (t : Stop) → t ≡ bundleStop R s → 0 < t .number → refusal (t .number) (t .place) ≡ pick R s device
+picked-stop R s device t e h = cases (t .number) refl
+  where
+    cases : (k : ℕ) → t .number ≡ k → refusal (t .number) (t .place) ≡ pick R s device
+    cases zero z = absurd (omega arith)
+    cases (suc k) z = ap (λ (u : Stop). refusal (u .number) (u .place)) e ∙ sym (pick-refused R s device k (ap (λ (u : Stop). u .number) (sym e) ∙ z))
 
-  pub picked-query : Accepted R s → empty (R .canon device) ≡ true → refusal 9 0 ≡ pick R s device
-  picked-query a q = sym (pick-query R s device a q)
+-- ---- the choice of an entry, from n slots and a name that is or is not canonical
 
--- entry i is the first of n that has a property, or n
-module _ (s : List ℕ) (n i j : ℕ) (q : i ≡ j) where
-  pub chosen-none : n ≤ i → (r : Picked) → r ≡ refusal 10 0 → Chosen s n j r
-  chosen-none h r e = record { none = λ l. e; image = λ l. absurd (omega arith) }
+module _ (R : IdRules) (texts lens : List ℕ) (n : ℕ) (device : List ℕ) where
+  fitting : ℕ → Bool
+  fitting k = R .compatible (text texts lens k) (R .canon device)
 
-  pub chosen-image : i < n → (r : EntryRecord) → r ≡ heldRow s (rowStart s i)
-      → Chosen s n j (record { number = 0; place = 0; index = i; position = r .«image_start»; size = r .«image_len» })
-  unfolding rowOf
-  chosen-image h r w = record {
-    none = λ l. absurd (omega arith);
-    image = λ l. ap (λ z. record { number = 0; place = 0; index = i; position = z .offset; size = z .size }) (row-is s i _ refl r w)
-        ∙ ap (λ k. record { number = 0; place = 0; index = k; position = row s k .offset; size = row s k .size }) q;
-  }
+  pub choice-query : empty (R .canon device) ≡ true → record { number = 9; index = 0 } ≡ choice R texts lens n device
+  unfolding choice stopIf stopWhen _⨾_ unrefused
+  choice-query q = rw q
 
-module _ (R : IdRules) (L : Lawful R) (s texts lens keys : List ℕ) (n : ℕ) (p : Pickable R s texts lens keys n) (name : List ℕ) (some : empty name ≡ false) (device : List ℕ) (e : name ≡ R .canon device) where
-  asked : Asked R s device
-  asked = record { bundle = p .sound; name = ap empty (sym e) ∙ some }
+  module _ (some : empty (R .canon device) ≡ false) (name : List ℕ) (e : name ≡ R .canon device) (i : ℕ) (f : i ≡ first n (λ k. R .compatible (text texts lens k) name)) where
+    at-first : i ≡ first n fitting
+    unfolding fitting
+    at-first = f ∙ ap (λ z. first n (λ k. R .compatible (text texts lens k) z)) e
 
-  i-is : first n (λ k. R .compatible (text texts lens k) name) ≡ first n (compatibleAt R s device)
+    pub choice-none : n ≤ i → record { number = 10; index = 0 } ≡ choice R texts lens n device
+    unfolding choice stopIf stopWhen _⨾_ unrefused anyBelow fitting
+    choice-none h = rw (some, sym at-first, le-ltb i n h)
+
+    pub choice-found : i < n → record { number = 0; index = i } ≡ choice R texts lens n device
+    unfolding choice stopIf stopWhen _⨾_ unrefused anyBelow fitting
+    choice-found h = rw (some, sym at-first, lt-ltb i n h)
+
+-- 9 and 10, where n entries are asked whether they are compatible
+abbrev asked : IdRules → List ℕ → ℕ → (ℕ → Bool) → Stop
+asked R device n p = stopIf 9 (empty (R .canon device)) ⨾ stopIf 10 (not (anyBelow n p))
+
+asked-placeless : (a b : Bool) → (stopIf 9 a ⨾ stopIf 10 b) .place ≡ 0
+unfolding stopIf stopWhen _⨾_
+asked-placeless true b = refl
+asked-placeless false true = refl
+asked-placeless false false = refl
+
+-- from an accepted bundle, it is that of the pick
+module _ (R : IdRules) (s texts lens keys : List ℕ) (n : ℕ) (p : Pickable R s texts lens keys n) (device : List ℕ) where
+  same-fitting : (k : ℕ) → k < n → R .compatible (text texts lens k) (R .canon device) ≡ compatibleAt R s device k
   unfolding compatibleAt
-  i-is = first-same n _ _ (λ k h. ap₂ (R .compatible) (p .held k h .text-is) e)
+  same-fitting k h = ap (λ z. R .compatible z (R .canon device)) (p .held k h .text-is)
 
-  picked-none : n ≤ first n (compatibleAt R s device) → refusal 10 0 ≡ pick R s device
-  picked-none h =
-      sym (pick-none R s device asked
-      (λ k l. first-before n (compatibleAt R s device) k (omega (arith, p .count-is))))
+  pub choice-is : choice R texts lens n device ≡ record { number = pick R s device .number; index = pick R s device .index }
+  unfolding choice pick pickStop chosen
+  choice-is =
+      rw (accepted-go R s (p .sound), ⨾-go (asked R device (count s) (compatibleAt R s device)), sym (p .count-is), first-same n _ _ same-fitting, any-same n _ _ same-fitting)
 
-  -- that of the first compatible entry
-  pub chosen-is : (r : Picked) → Chosen s n (first n (λ k. R .compatible (text texts lens k) name)) r → r ≡ pick R s device
-  chosen-is r c =
-      let i = first n (compatibleAt R s device) in
-      let d : Chosen s n i r = subst (λ k. Chosen s n k r) i-is c in
-      byBool (ltb i n)
-      (λ t.
-      let h : i < n = ltb-true i n t in
-      d .image h ∙ sym (pick-found R L s device asked i (omega (arith, p .count-is)) (first-at n (compatibleAt R s device) h)))
-      (λ f. let h : n ≤ i = ltb-false i n f in d .none h ∙ picked-none h)
+  -- no place is named
+  no-place : pickStop R s device .place ≡ 0
+  unfolding pickStop
+  no-place = rw (accepted-go R s (p .sound), ⨾-go (asked R device (count s) (compatibleAt R s device))) (asked-placeless (empty (R .canon device)) (not (anyBelow (count s) (compatibleAt R s device))))
+
+  module _ (r : Choice) (e : r ≡ choice R texts lens n device) where
+    number-is : r .number ≡ pick R s device .number
+    number-is = ap (λ (z : Choice). z .number) (e ∙ choice-is)
+
+    index-is : r .index ≡ pick R s device .index
+    index-is = ap (λ (z : Choice). z .index) (e ∙ choice-is)
+
+    pub choice-refused : 0 < r .number → refusal (r .number) 0 ≡ pick R s device
+    unfolding pick
+    choice-refused h = cases (r .number) refl
+      where
+        cases : (k : ℕ) → r .number ≡ k → refusal (r .number) 0 ≡ pick R s device
+        cases zero z = absurd (omega arith)
+        cases (suc k) z =
+            ap₂ refusal number-is (sym no-place)
+            ∙ sym (refused-by R s device (pickStop R s device) k refl (sym number-is ∙ z))
+
+    module _ (z : r .number ≡ 0) where
+      image-is : pick R s device ≡ imageAt s (r .index)
+      unfolding pick
+      image-is =
+          let i = pick-image R s device (sym number-is ∙ z) in
+          i ∙ ap (imageAt s) (sym (index-is ∙ ap (λ (x : Picked). x .index) i))
+
+      pub choice-lt : r .index < n
+      choice-lt = omega (arith, index-is, picked-lt R s device (sym number-is ∙ z), p .count-is)
+
+      -- the row of the entry, as it is read
+      pub choice-image : (q : EntryRecord) → q ≡ heldRow s (rowStart s (r .index))
+          → record { number = 0; place = 0; index = r .index; position = q .«image_start»; size = q .«image_len» } ≡ pick R s device
+      unfolding rowOf
+      choice-image q w =
+          ap (λ x. record { number = 0; place = 0; index = r .index; position = x .offset; size = x .size }) (row-is s (r .index) _ refl q w)
+          ∙ sym image-is
+
+    -- there is a row for it among 64
+    pub choice-room : r .index < 64
+    choice-room = cases (r .number) refl
+      where
+        cases : (k : ℕ) → r .number ≡ k → r .index < 64
+        cases zero z = omega (arith, choice-lt z, p .count-is, p .sound .frame .few)
+        cases (suc k) z = omega (arith, index-is, ap (λ (x : Picked). x .index) (choice-refused (omega arith)))

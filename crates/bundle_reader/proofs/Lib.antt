@@ -6,3 +6,4 @@ pub mod ChoiceLaws
 pub mod LocatedLaws
 pub mod IdLaws
 pub mod OverlapLaws
+pub mod EachLaws

@@ -1,25 +1,24 @@
 -- What the code holds of a bundle between its steps. No public promise rests on this file.
-use Prim.Native.Nat.{ℕ, _+_, _*_, _<_, _≤_}
+use Prim.Native.Nat.{ℕ, zero, suc, _+_, _*_, _<_, _≤_}
 use mathlib.Core.Path.{_≡_}
-use mathlib.Core.Bool.{Bool, true, false, _||_}
-use mathlib.Core.List.{List, []}
+use mathlib.Core.Bool.{Bool, true, false, not, _&&_, _||_}
+use mathlib.Core.List.{List, [], _∷_}
 use lib.Dec.{eqb, ltb}
-use lib.ListN.{length, getD}
+use lib.ListN.{length, getD, replicate}
 use Rattle.wire.specs.Bytes.{empty}
-use Rattle.wire.specs.First.{first}
+use Rattle.wire.specs.First.{first, anyBelow}
 use Rattle.wire.specs.Limit.{limit}
-use Rattle.wire.specs.Stop.{Stop, stop, _⨾_, stopAt, earlier}
+use Rattle.wire.specs.Stop.{Stop, stop, _⨾_, stopIf, stopAt, earlier}
 use Rattle.entry_id.specs.Canonical.{headKey}
 use Rattle.entry_id.specs.IdRules.{IdRules}
 use Rattle.bundle.specs.Table.{Row, count, rowStart, row}
 use Rattle.bundle.specs.Check.{badId, outside, overlapStop, unrefused, rowsStop, bundleStop}
 use Rattle.bundle.specs.Accepted.{RowFits, Accepted}
 use Rattle.bundle.specs.Records.{rowsOf}
-use Rattle.bundle.specs.Theorems.{refusal}
 use Rattle.bundle.specs.declared.Checked.{Checked}
 use Rattle.bundle.specs.declared.EntryRecord.{EntryRecord}
-use Rattle.bundle.specs.declared.Picked.{Picked}
 use Rattle.entry_compare.specs.declared.Relation.{Relation}
+use Rattle.bundle_reader.specs.declared.Choice.{Choice}
 use Rattle.bundle_reader.specs.Examined.{filled, slots, text, form, formLength, rowsIn, formsOf}
 
 -- ---- rows
@@ -29,6 +28,10 @@ pub record Rows (s : List ℕ) (n : ℕ) (rows : List EntryRecord) : Type 0 wher
   pub few : n ≤ 64
   pub fits : (k : ℕ) → k < n → RowFits s (rowStart s k)
   pub are : rows ≡ rowsIn s n
+
+-- where the first n rows of s start, in 64 places
+unfoldable pub startsIn : List ℕ → ℕ → List ℕ
+startsIn s n = filled (replicate 64 0) n (rowStart s)
 
 -- a bundle of n rows with a table that ends at `end`, which 1 to 4 do not refuse: what 5 to 8 and 21 say of it, and how many forms are made
 pub record Passed (R : IdRules) (s : List ℕ) (n end : ℕ) : Type 0 where
@@ -115,10 +118,20 @@ pub record Known (R : IdRules) (s texts lens keys : List ℕ) (c : Checked) : Ty
   pub stop-is : stop (c .number) (c .place) ≡ bundleStop R s
   pub pickable : c .number ≡ 0 → Pickable R s texts lens keys (c .count)
 
--- the answer of a pick from n entries of s, of which i is the first that is compatible, or n
-pub record Chosen (s : List ℕ) (n i : ℕ) (r : Picked) : Type 0 where
-  pub none : n ≤ i → r ≡ refusal 10 0
-  pub image : i < n → r ≡ record { number = 0; place = 0; index = i; position = row s i .offset; size = row s i .size }
+-- the choice of one of n slots by a device name: 9 "the device name breaks the ID rules", 10 "no compatible entry"; else the first that is compatible
+unfoldable pub choice : IdRules → List ℕ → List ℕ → ℕ → List ℕ → Choice
+choice R texts lens n device =
+    let p : ℕ → Bool = λ k. R .compatible (text texts lens k) (R .canon device) in
+    let t = stopIf 9 (empty (R .canon device)) ⨾ stopIf 10 (not (anyBelow n p)) in
+    record { number = t .number; index = unrefused t (first n p) }
+
+-- its slot, where r is the row of the entry chosen
+unfoldable pub choiceSlot : Choice → EntryRecord → List ℕ
+choiceSlot c r = elim (c .number) [ zero ↦ 0 ∷ c .index ∷ r .«image_start» ∷ r .«image_len» ∷ [] | suc k ↦ suc k ∷ 0 ∷ 0 ∷ 0 ∷ [] ]
+
+-- it takes entry i
+unfoldable pub takes : Choice → ℕ → Bool
+takes c i = eqb (c .number) 0 && eqb (c .index) i
 
 -- what refuses n rows; where nothing does, their canonical IDs
 pub record Judged (R : IdRules) (t : Stop) (rows : ℕ → Row) (n : ℕ) (texts lens : List ℕ) (number place : ℕ) : Type 0 where

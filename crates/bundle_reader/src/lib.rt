@@ -1,4 +1,6 @@
-// The check of a bundle, the pick of the image for a device name, and the entry at an index.
+// The check of a bundle, the pick of the image for a device name or for each of several, and the entry at an index.
+mod each;
+
 ghost use mathlib.Core.Path.{_≡_};
 ghost use mathlib.Core.Bool.{true, false};
 ghost use Prim.Native.Nat.{ℕ, _+_, _*_, _-_, _<_, _≤_};
@@ -7,6 +9,7 @@ ghost use lib.ListN.{length, take, drop, replicate};
 ghost use Rattle.wire.specs.Bytes.{overwrite};
 ghost use Rattle.wire.specs.First.{first};
 ghost use Rattle.wire.specs.Limit.{limit};
+ghost use Rattle.wire.specs.Word.{word};
 ghost use Rattle.wire.specs.Stop.{go, stop, _⨾_, stopIf, stopAt, earlier};
 ghost use Rattle.entry_id.specs.Canonical.{headKey};
 ghost use Rattle.entry_id.specs.IdRules.{IdRules};
@@ -14,17 +17,20 @@ ghost use Rattle.entry_id.specs.Rules.{idRules, rulesOf};
 ghost use Rattle.bundle.specs.Table.{count, rowStart, row};
 ghost use Rattle.bundle.specs.Check.{badRow, outside, overlaps, overlapStop, unrefused, headStop, check};
 ghost use Rattle.bundle.specs.Pick.{pick};
+ghost use Rattle.bundle.specs.Each.{pickEach, slotsAfter};
 ghost use Rattle.bundle.specs.Accepted.{RowFits};
 ghost use Rattle.bundle.specs.Theorems.{refusal};
 ghost use Rattle.bundle.specs.EntryAt.{entryAt, unlocated};
 ghost use Rattle.bundle.specs.Records.{noRecord, recordAt, rowsOf, badPart};
 ghost use Rattle.canonical_form.specs.Made.{formOf};
 ghost use Rattle.bundle_reader.specs.Examined.{filled, slots, text, form, formLength, heldRow, rowsIn, examined, formsOf, examinedRecords, formsOfRecords};
-ghost use Rattle.bundle_reader.specs.Slots.{Inner, span, spans, Spans, Compared, Tabled, firstMore, Room, Formed, Canonical, Texts, Chosen, Known, near, relation, relations};
+ghost use Rattle.bundle_reader.specs.Slots.{Inner, span, spans, Spans, Compared, Tabled, firstMore, Room, Formed, Canonical, Texts, choice, Known, near, relation, relations};
+use crate::each::pick_each_in;
 use bundle::Checked;
 use bundle::EntryRecord;
 use bundle::Located;
 use bundle::Picked;
+use bundle::PickedEach;
 use canonical_form::Form;
 use entry_compare::Relation;
 use entry_id::Reading;
@@ -35,6 +41,12 @@ struct Table {
     place: usize,
     count: usize,
     end: usize,
+}
+
+// The entry that a device name chooses: 0 and its index; or a refusal and 0.
+struct Choice {
+    number: usize,
+    index: usize,
 }
 
 // A refusal; number 0: nothing is refused.
@@ -110,6 +122,14 @@ fn row_at(s: &[u8], at: usize) -> EntryRecord
     }
 }
 
+// Where the row behind the one at `at` starts. Only its ID's length is read.
+fn next_row(s: &[u8], at: usize) -> usize
+    requires { ⌜ RowFits (now s) at ⌝ }
+    ensures { λ r. ⌜ r ≡ at + 24 + word 8 (now (s .entry)) (at + 16) ⌝ }
+{
+    at + 24 + wire_read::word8_at(s, at + 16) as usize
+}
+
 // The record of zeros in each of 64 places.
 pub fn no_records() -> [EntryRecord; 64]
     ensures { λ r. ⌜ r ≡ replicate 64 noRecord ⌝ }
@@ -139,7 +159,7 @@ fn table_end(s: &[u8], n: usize) -> Table
                 end: 0,
             };
         }
-        at = at + 24 + wire_read::word8_at(s, at + 16) as usize;
+        at = next_row(s, at);
         i += 1;
     }
     Table {
@@ -734,6 +754,13 @@ fn first_compatible(
     k
 }
 
+// The refusal of a choice.
+fn no_choice(number: usize) -> Choice
+    ensures { λ r. ⌜ r ≡ record { number = number; index = 0 } ⌝ }
+{
+    Choice { number, index: 0 }
+}
+
 // A pick's refusal.
 fn no_image(number: usize, place: usize) -> Picked
     ensures { λ r. ⌜ r ≡ refusal number place ⌝ }
@@ -755,36 +782,37 @@ fn row_of(s: &[u8], i: usize) -> EntryRecord
     let mut k: usize = 0;
     let mut at: usize = 32;
     while k < i {
-        at = at + 24 + wire_read::word8_at(s, at + 16) as usize;
+        at = next_row(s, at);
         k += 1;
     }
     row_at(s, at)
 }
 
-// The image of the first of n entries whose canonical ID is compatible with the device name, which is canonical and has the number `key`.
-fn pick_named(
-    s: &[u8],
+// The choice of one of n entries by a device name, from their canonical IDs: the one that is compatible, 9 QUERY or 10 NONE.
+fn choose(
+    reading: Reading,
+    n: usize,
+    device: &[u8],
     texts: &[u8],
     lens: &[usize],
     keys: &[u64],
-    n: usize,
-    name: &[u8],
-    key: u64,
-) -> Picked
-    requires { ⌜ ((k : ℕ) → k < n → RowFits (now s) (rowStart (now s) k)) × Texts idRules (now texts) (now lens) (now keys) n × Canonical idRules (now name) × (key ≡ headKey (now name)) ⌝ }
-    ensures { λ r. ⌜ Chosen (now (s .entry)) n (first n (λ k. idRules .compatible (text (now (texts .entry)) (now (lens .entry)) k) (now (name .entry)))) r ⌝ }
+) -> Choice
+    requires { ⌜ Texts (rulesOf reading) (now texts) (now lens) (now keys) n ⌝ }
+    ensures { λ r. ⌜ r ≡ choice (rulesOf reading) (now (texts .entry)) (now (lens .entry)) n (now (device .entry)) ⌝ }
 {
-    let i = first_compatible(texts, lens, keys, n, name, key);
-    if n <= i {
-        return no_image(10, 0);
+    let mut name = [0u8; 256];
+    let made = profile_form::canonical_by(reading, device, &mut name);
+    let len = made.length;
+    if len == 0 {
+        return no_choice(9);
     }
-    let row = row_of(s, i);
-    Picked {
+    let i = first_compatible(texts, lens, keys, n, &name[..len], made.key);
+    if n <= i {
+        return no_choice(10);
+    }
+    Choice {
         number: 0,
-        place: 0,
         index: i,
-        position: row.image_start as u64,
-        size: row.image_len as u64,
     }
 }
 
@@ -805,13 +833,20 @@ fn pick_checked(
     if 0 < number {
         return no_image(number, c.place);
     }
-    let mut name = [0u8; 256];
-    let made = profile_form::canonical_by(reading, device, &mut name);
-    let len = made.length;
-    if len == 0 {
-        return no_image(9, 0);
+    let chosen = choose(reading, c.count, device, texts, lens, keys);
+    let refusal = chosen.number;
+    if 0 < refusal {
+        return no_image(refusal, 0);
     }
-    pick_named(s, texts, lens, keys, c.count, &name[..len], made.key)
+    let i = chosen.index;
+    let row = row_of(s, i);
+    Picked {
+        number: 0,
+        place: 0,
+        index: i,
+        position: row.image_start as u64,
+        size: row.image_len as u64,
+    }
 }
 
 // The pick from a bundle of few entries, which needs little scratch.
@@ -851,6 +886,45 @@ pub fn pick(bundle: &[u8], device: &[u8]) -> Picked
     ensures { λ r. ⌜ r ≡ pick idRules (now (bundle .entry)) (now (device .entry)) ⌝ }
 {
     pick_by(Reading::General, bundle, device)
+}
+
+// The pick for each of several device names, parts of a buffer by their starts and lengths: a slot for each, with number, index, position and size. Few
+// entries need little scratch.
+pub fn pick_each(
+    bundle: &[u8],
+    buffer: &[u8],
+    names: &[[u64; 2]],
+    slots: &mut [[u64; 4]],
+) -> PickedEach
+    ensures { λ r. ⌜ r ≡ pickEach idRules (now (bundle .entry)) (now (buffer .entry)) (now (names .entry)) (length (now (slots .entry))) ⌝ }
+    ensures { λ _. ⌜ now (slots .exit) ≡ slotsAfter idRules (now (bundle .entry)) (now (buffer .entry)) (now (names .entry)) (now (slots .entry)) ⌝ }
+{
+    if wire_read::word8_at(bundle, 24) <= 8 {
+        let mut few = [0u8; 2048];
+        let mut few_lens = [0usize; 8];
+        let mut few_keys = [0u64; 8];
+        return pick_each_in(
+            bundle,
+            buffer,
+            names,
+            slots,
+            &mut few,
+            &mut few_lens,
+            &mut few_keys,
+        );
+    }
+    let mut lens = [0usize; 64];
+    let mut keys = [0u64; 64];
+    let mut texts = [0u8; 16384];
+    pick_each_in(
+        bundle,
+        buffer,
+        names,
+        slots,
+        &mut texts,
+        &mut lens,
+        &mut keys,
+    )
 }
 
 // The refusal of a call by an entry's index.

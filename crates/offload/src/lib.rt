@@ -5,6 +5,7 @@ ghost use mathlib.Core.Path.{_≡_};
 ghost use Rattle.entry_id.specs.Rules.{idRules};
 ghost use Rattle.bundle.specs.Check.{check};
 ghost use Rattle.bundle.specs.Pick.{pick};
+ghost use Rattle.bundle.specs.Each.{pickEach, slotsAfter};
 ghost use Rattle.bundle.specs.EntryAt.{entryAt};
 ghost use Rattle.bundle.specs.Normal.{normalise, normalised};
 ghost use lib.ListN.{length};
@@ -63,6 +64,71 @@ pub extern "C" fn offload_pick_size(bundle: &[u8], device: &[u8]) -> u64
     ensures { λ r. ⌜ r ≡ pick idRules (now (bundle .entry)) (now (device .entry)) .size ⌝ }
 {
     bundle_reader::pick(bundle, device).size
+}
+
+#[no_mangle]
+pub extern "C" fn offload_pick_each_number(
+    bundle: &[u8],
+    buffer: &[u8],
+    names: &[[u64; 2]],
+    slots: &mut [[u64; 4]],
+) -> u64
+    ensures { λ r. ⌜ r ≡ pickEach idRules (now (bundle .entry)) (now (buffer .entry)) (now (names .entry)) (length (now (slots .entry))) .number ⌝ }
+    ensures { λ _. ⌜ now (slots .exit) ≡ slotsAfter idRules (now (bundle .entry)) (now (buffer .entry)) (now (names .entry)) (now (slots .entry)) ⌝ }
+{
+    bundle_reader::pick_each(bundle, buffer, names, slots).number as u64
+}
+
+#[no_mangle]
+pub extern "C" fn offload_pick_each_place(
+    bundle: &[u8],
+    buffer: &[u8],
+    names: &[[u64; 2]],
+    slots: &mut [[u64; 4]],
+) -> u64
+    ensures { λ r. ⌜ r ≡ pickEach idRules (now (bundle .entry)) (now (buffer .entry)) (now (names .entry)) (length (now (slots .entry))) .place ⌝ }
+    ensures { λ _. ⌜ now (slots .exit) ≡ slotsAfter idRules (now (bundle .entry)) (now (buffer .entry)) (now (names .entry)) (now (slots .entry)) ⌝ }
+{
+    bundle_reader::pick_each(bundle, buffer, names, slots).place as u64
+}
+
+#[no_mangle]
+pub extern "C" fn offload_pick_each_slots(
+    bundle: &[u8],
+    buffer: &[u8],
+    names: &[[u64; 2]],
+    slots: &mut [[u64; 4]],
+) -> u64
+    ensures { λ r. ⌜ r ≡ pickEach idRules (now (bundle .entry)) (now (buffer .entry)) (now (names .entry)) (length (now (slots .entry))) .slots ⌝ }
+    ensures { λ _. ⌜ now (slots .exit) ≡ slotsAfter idRules (now (bundle .entry)) (now (buffer .entry)) (now (names .entry)) (now (slots .entry)) ⌝ }
+{
+    bundle_reader::pick_each(bundle, buffer, names, slots).slots as u64
+}
+
+#[no_mangle]
+pub extern "C" fn offload_pick_each_word(
+    bundle: &[u8],
+    buffer: &[u8],
+    names: &[[u64; 2]],
+    slots: &mut [[u64; 4]],
+) -> u64
+    ensures { λ r. ⌜ r ≡ pickEach idRules (now (bundle .entry)) (now (buffer .entry)) (now (names .entry)) (length (now (slots .entry))) .word ⌝ }
+    ensures { λ _. ⌜ now (slots .exit) ≡ slotsAfter idRules (now (bundle .entry)) (now (buffer .entry)) (now (names .entry)) (now (slots .entry)) ⌝ }
+{
+    bundle_reader::pick_each(bundle, buffer, names, slots).word
+}
+
+#[no_mangle]
+pub extern "C" fn offload_pick_each_taken(
+    bundle: &[u8],
+    buffer: &[u8],
+    names: &[[u64; 2]],
+    slots: &mut [[u64; 4]],
+) -> u64
+    ensures { λ r. ⌜ r ≡ pickEach idRules (now (bundle .entry)) (now (buffer .entry)) (now (names .entry)) (length (now (slots .entry))) .taken ⌝ }
+    ensures { λ _. ⌜ now (slots .exit) ≡ slotsAfter idRules (now (bundle .entry)) (now (buffer .entry)) (now (names .entry)) (now (slots .entry)) ⌝ }
+{
+    bundle_reader::pick_each(bundle, buffer, names, slots).taken as u64
 }
 
 #[no_mangle]

@@ -38,6 +38,36 @@ fn print_pick(bundle: &[u8], device: &[u8]) {
     io::write_all(1, b"\n");
 }
 
+fn print_slot(slot: [u64; 4]) {
+    io::write_all(1, b"slot");
+    print(slot[0]);
+    print(slot[1]);
+    print(slot[2]);
+    print(slot[3]);
+    io::write_all(1, b"\n");
+}
+
+fn print_slots(slots: &[[u64; 4]]) {
+    let mut k: usize = 0;
+    while k < slots.len() {
+        print_slot(slots[k]);
+        k += 1;
+    }
+}
+
+// The pick for each of several device names: what is returned, and the slots then.
+fn print_each(bundle: &[u8], buffer: &[u8], names: &[[u64; 2]], slots: &mut [[u64; 4]]) {
+    let r = bundle_reader::pick_each(bundle, buffer, names, slots);
+    io::write_all(1, b"pick each");
+    print(r.number as u64);
+    print(r.place as u64);
+    print(r.slots as u64);
+    print(r.word);
+    print(r.taken as u64);
+    io::write_all(1, b"\n");
+    print_slots(slots);
+}
+
 // Normalises into `out`: what is returned, and the sum of the output then.
 fn print_normal(bundle: &[u8], out: &mut [u8]) -> usize {
     let r = normal_form::normalise(bundle, out);
@@ -85,6 +115,13 @@ pub(crate) fn sixty_four() {
     print_check(&bundle);
     print_normal(&bundle, &mut [b'.'; 2530]);
     print_pick(&bundle, b"host-a-b-c17");
+    // the first entry and the last
+    print_each(
+        &bundle,
+        b"host-a-b-c63host-a-b-c00host-a-b-c64",
+        &[[0, 12], [12, 12], [24, 12]],
+        &mut [[1, 2, 3, 4]; 4],
+    );
     wire_write::put_word8(&mut bundle, 24, 65);
     print_check(&bundle);
 }

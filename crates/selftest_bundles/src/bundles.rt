@@ -18,7 +18,7 @@ const HOST_SPELLED: [u8; 90] = *b"__CLANG_OFFLOAD_BUNDLE__\x01\0\0\0\0\0\0\0\
     image";
 
 // The same with its ID in canonical form: "magic; count 1; 86; 5; 30; the ID; the five bytes".
-const HOST: [u8; 91] = *b"__CLANG_OFFLOAD_BUNDLE__\x01\0\0\0\0\0\0\0\
+pub(crate) const HOST: [u8; 91] = *b"__CLANG_OFFLOAD_BUNDLE__\x01\0\0\0\0\0\0\0\
     \x56\0\0\0\0\0\0\0\x05\0\0\0\0\0\0\0\x1e\0\0\0\0\0\0\0host-x86_64-unknown-linux-gnu-\
     image";
 
@@ -27,7 +27,7 @@ const HOST_ONLY: [u8; 86] = *b"__CLANG_OFFLOAD_BUNDLE__\x01\0\0\0\0\0\0\0\
     \x56\0\0\0\0\0\0\0\0\0\0\0\0\0\0\0\x1e\0\0\0\0\0\0\0host-x86_64-unknown-linux-gnu-";
 
 // Two entries in falling order; bytes of no image after the table; images in falling order.
-const TWO_CARDS: [u8; 158] = *b"__CLANG_OFFLOAD_BUNDLE__\x02\0\0\0\0\0\0\0\
+pub(crate) const TWO_CARDS: [u8; 158] = *b"__CLANG_OFFLOAD_BUNDLE__\x02\0\0\0\0\0\0\0\
     \x9b\0\0\0\0\0\0\0\x03\0\0\0\0\0\0\0\x23\0\0\0\0\0\0\0hip-amdgcn-amd-amdhsa-gfx906:xnack-\
     \x99\0\0\0\0\0\0\0\x02\0\0\0\0\0\0\0\x23\0\0\0\0\0\0\0hip-amdgcn-amd-amdhsa-gfx906:xnack+\
     ...abcde";
@@ -39,13 +39,13 @@ const TWO_CARDS_NORMAL: [u8; 157] = *b"__CLANG_OFFLOAD_BUNDLE__\x02\0\0\0\0\0\0\
     abcde";
 
 // Two images that share a byte.
-const SHARED_BYTE: [u8; 107] = *b"__CLANG_OFFLOAD_BUNDLE__\x02\0\0\0\0\0\0\0\
+pub(crate) const SHARED_BYTE: [u8; 107] = *b"__CLANG_OFFLOAD_BUNDLE__\x02\0\0\0\0\0\0\0\
     \x63\0\0\0\0\0\0\0\x04\0\0\0\0\0\0\0\x0a\0\0\0\0\0\0\0host-a-b-c\
     \x66\0\0\0\0\0\0\0\x04\0\0\0\0\0\0\0\x09\0\0\0\0\0\0\0hip-a-b-c\
     8 bytes.";
 
 // Two kinds for one target, in falling order.
-const TWO_KINDS: [u8; 145] = *b"__CLANG_OFFLOAD_BUNDLE__\x02\0\0\0\0\0\0\0\
+pub(crate) const TWO_KINDS: [u8; 145] = *b"__CLANG_OFFLOAD_BUNDLE__\x02\0\0\0\0\0\0\0\
     \x8d\0\0\0\0\0\0\0\x02\0\0\0\0\0\0\0\x1f\0\0\0\0\0\0\0openmp-amdgcn-amd-amdhsa-gfx906\
     \x8f\0\0\0\0\0\0\0\x02\0\0\0\0\0\0\0\x1e\0\0\0\0\0\0\0hipv4-amdgcn-amd-amdhsa-gfx906\
     abcd";

@@ -2,6 +2,7 @@
 // What a case expects is a theorem: `expect_..` asks that the definitions give it, and holds what runs to it.
 mod bundle_writer;
 mod bundles;
+mod each;
 
 // Every case.
 pub fn run() {
@@ -30,6 +31,13 @@ pub fn run() {
     bundles::cards_again();
     bundles::kinds_normal();
     bundles::names_normal();
+    each::few_names();
+    each::sixteen_names();
+    each::refused();
+    each::parts();
+    each::long_names();
+    each::side_by_side();
+    each::one_entry();
     bundle_writer::written();
     bundle_writer::written_before();
     bundle_writer::no_room();

@@ -1,10 +1,11 @@
 -- Facts on tests: a Bool as an equation, and as the type T b. Assumes nothing.
 use Prim.Native.Nat.{ℕ}
-use mathlib.Core.Path.{_≡_, refl, sym, subst}
+use mathlib.Core.Path.{_≡_, refl, sym, subst, _∙_}
 use mathlib.Core.Logic.{_⊎_, inl, inr}
 use mathlib.Core.Bool.{Bool, true, false, not, _&&_, _||_, cond}
 use native.Mathlib.Omega.{arith}
-use lib.Dec.{T}
+use borrow.Author.Tests.{eq-eqb, ne-eqb, eqb-true, eqb-false}
+use lib.Dec.{T, eqb}
 
 -- ---- a split, and a contradiction
 
@@ -67,6 +68,9 @@ not-no false e = clash true refl e
 
 pub yes-not : (a : Bool) → a ≡ true → not a ≡ false
 yes-not a e = rw e
+
+pub eqb-sym : (a b : ℕ) → eqb a b ≡ eqb b a
+eqb-sym a b = byBool (eqb a b) (λ t. t ∙ sym (eq-eqb b a (sym (eqb-true a b t)))) (λ f. f ∙ sym (ne-eqb b a (λ e. eqb-false a b f (sym e))))
 
 -- ---- as types
 

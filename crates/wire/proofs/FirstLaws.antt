@@ -2,8 +2,9 @@
 use Prim.Native.Nat.{ℕ, zero, suc, _<_, _≤_}
 use native.Mathlib.Omega.{arith}
 use mathlib.Core.Path.{_≡_, refl, sym, ap, _∙_}
-use mathlib.Core.Bool.{Bool, true, false}
+use mathlib.Core.Bool.{Bool, true, false, _||_}
 use borrow.Author.Tests.{ltb-false, le-ltb}
+use lib.Dec.{leb·suc-suc}
 use Rattle.wire.specs.First.{first, anyBelow}
 use Rattle.wire.proofs.Bools.{byBool, clash}
 
@@ -77,3 +78,11 @@ none-any n p e i h = first-before n p i (omega (arith, ltb-false (first n p) n e
 
 pub any-some : (n : ℕ) (p : ℕ → Bool) (i : ℕ) → i < n → p i ≡ true → anyBelow n p ≡ true
 any-some n p i h e = byBool (anyBelow n p) (λ t. t) (λ f. clash (p i) e (none-any n p f i h))
+
+-- by the index 0 and those after it
+pub any-suc : (n : ℕ) (p : ℕ → Bool) → anyBelow (suc n) p ≡ (p zero || anyBelow n (λ i. p (suc i)))
+unfolding anyBelow
+any-suc n p =
+    byBool (p zero)
+    (λ e. rw e (any-some (suc n) p zero (omega arith) e))
+    (λ e. rw (first-no n p e, e) (leb·suc-suc (suc (first n (λ i. p (suc i)))) n))

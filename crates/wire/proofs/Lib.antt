@@ -7,4 +7,5 @@ pub mod TabLaws
 pub mod SortLaws
 pub mod FirstLaws
 pub mod StopLaws
+pub mod BitLaws
 pub mod Theorems

@@ -56,6 +56,11 @@ unfolding stopIf stopWhen
 stopIf-no k true e = absurd (omega arith)
 stopIf-no k false e = refl
 
+pub stopIf-yes : (k : ℕ) (b : Bool) → stopIf (suc k) b .number ≡ suc k → b ≡ true
+unfolding stopIf stopWhen
+stopIf-yes k true e = refl
+stopIf-yes k false e = absurd (omega arith)
+
 pub stopAt-go : (k n : ℕ) (p : ℕ → Bool) → ((i : ℕ) → i < n → p i ≡ false) → stopAt k n p ≡ go
 unfolding stopAt stopWhen
 stopAt-go k n p h = rw (any-none n p h)

@@ -6,3 +6,4 @@ pub mod First
 pub mod Stop
 pub mod Theorems
 pub mod Limit
+pub mod Bits

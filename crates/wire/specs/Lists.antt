@@ -1,7 +1,8 @@
--- Tests on lists, and sums over them. Definitions only.
+-- Tests on lists, sums over them, and lists without repeats. Definitions only.
 use Prim.Native.Nat.{ℕ, _+_, zero, suc}
-use mathlib.Core.Bool.{Bool, true, false, _&&_, _||_}
+use mathlib.Core.Bool.{Bool, true, false, _&&_, _||_, cond}
 use mathlib.Core.List.{List, [], _∷_}
+use lib.Dec.{eqb}
 
 -- every element passes the test
 unfoldable pub every : {A : Type 0} → (A → Bool) → List A → Bool
@@ -29,3 +30,8 @@ total f (x ∷ l) = f x + total f l
 unfoldable pub tab {ℓ} : {A : Type ℓ} → ℕ → (ℕ → A) → List A
 tab zero f = []
 tab (suc n) f = f zero ∷ tab n (λ i. f (suc i))
+
+-- each number of a list once
+unfoldable pub distinct : List ℕ → List ℕ
+distinct [] = []
+distinct (x ∷ l) = cond (any (eqb x) l) (distinct l) (x ∷ distinct l)

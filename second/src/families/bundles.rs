@@ -14,9 +14,6 @@ const PICK: (&str, &[u64]) = ("pick", &[0, 1, 2, 3, 4, 5, 6, 21, 7, 8, 9, 10]);
 const ENTRY: (&str, &[u64]) = ("entry", &[0, 1, 2, 3, 4, 5, 6, 21, 7, 8, 10]);
 const NORMALISE: (&str, &[u64]) = ("normalise", &[0, 1, 2, 3, 4, 5, 6, 21, 7, 8, 11, 12]);
 
-/// How often each line of the profile is aimed at, whatever chance does.
-const EACH_AIM: u64 = 8;
-
 pub struct Bundles {
     reading: Reading,
     calls: ReadingCalls,
@@ -96,22 +93,15 @@ impl Bundles {
     fn run_case(&mut self, case: Case, aim: Option<usize>) -> Result<(), Difference> {
         self.case = case;
         let numbers = self.compare()?;
-        if let Some(aim) = aim {
-            let number = numbers.iter().find(|(call, _)| *call == self.aims[aim].call).expect("a call").1;
-            self.report.aimed(aim, number);
-        }
+        aim.into_iter().for_each(|aim| self.report.aimed_at_one(aim, &numbers));
         Ok(())
     }
 
-    /// Aims at each line a few times. There are so many lines about names that chance would leave one out now and then.
+    /// Aims at each line a few times.
     fn run_each_aim(&mut self) -> Result<(), Difference> {
-        for aim in 0..self.aims.len() {
-            for case in 0..EACH_AIM {
-                let mut random = Random::of_case(case, aim as u64);
-                let mut draft = Draft::good(self.reading, &mut random, 2);
-                (self.aims[aim].make)(&mut draft, &mut random);
-                self.run_case(draft.case(), Some(aim))?;
-            }
+        let reading = self.reading;
+        for (aim, draft) in each_aim(&self.aims, |random| Draft::good(reading, random, 2)) {
+            self.run_case(draft.case(), Some(aim))?;
         }
         Ok(())
     }
@@ -189,7 +179,7 @@ impl Family for Bundles {
         let aim = apply_aims(&self.aims, &mut draft, random);
         let mut case = draft.case();
         if random.one_in(12) {
-            shake(&mut case, random);
+            shake(&mut case.bundle, random);
             return self.run_case(case, None);
         }
         self.run_case(case, aim)

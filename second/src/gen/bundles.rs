@@ -122,13 +122,18 @@ impl Draft {
     }
 
     /// A device name that has often a compatible entry.
-    fn likely_device(&self, random: &mut Random) -> Vec<u8> {
+    pub(super) fn likely_device(&self, random: &mut Random) -> Vec<u8> {
         if self.rows.is_empty() || random.one_in(8) {
             let meaning = ids::some_meaning_by(self.reading, random);
             return ids::spelled(self.reading, random, &meaning);
         }
-        let entry = random.choose(&self.rows);
-        let device = ids::with_more_features(self.reading, random, &entry.meaning);
+        let at = random.below(self.rows.len());
+        self.device_for(random, at)
+    }
+
+    /// A device name for which the entry of this row is, as long as nothing damages the bundle.
+    pub(super) fn device_for(&self, random: &mut Random, at: usize) -> Vec<u8> {
+        let device = ids::with_more_features(self.reading, random, &self.rows[at].meaning);
         let device = ids::either_spelling(random, device);
         ids::spelled(self.reading, random, &device)
     }
@@ -181,7 +186,7 @@ impl Draft {
     }
 
     /// The index of some row; one is put in if there is none.
-    fn some_row(&mut self, random: &mut Random) -> usize {
+    pub(super) fn some_row(&mut self, random: &mut Random) -> usize {
         if self.rows.is_empty() {
             let meaning = ids::some_meaning_by(self.reading, random);
             self.put_meaning(random, meaning);
@@ -189,7 +194,7 @@ impl Draft {
         random.below(self.rows.len())
     }
 
-    fn put_meaning(&mut self, random: &mut Random, meaning: Meaning) -> usize {
+    pub(super) fn put_meaning(&mut self, random: &mut Random, meaning: Meaning) -> usize {
         let image = images::anywhere(random, self.body.len());
         let row = Row::new(self.reading, random, meaning, image);
         let at = self.put_row(random, row);
@@ -217,7 +222,7 @@ impl Draft {
     }
 
     /// An entry at the limits, with this ID as spelled; its meaning is there once.
-    fn put_id(&mut self, random: &mut Random, id: Vec<u8>) {
+    pub(super) fn put_id(&mut self, random: &mut Random, id: Vec<u8>) {
         let at = self.put_meaning(random, ids::meaning_of(&id));
         self.rows[at].set_id(id);
     }
@@ -253,8 +258,16 @@ fn some_index(random: &mut Random, count: usize) -> u64 {
 /// How many images of the size limit make an output far above it: above 2^31, above 2^32, and the most there can be.
 pub const FAR_ABOVE: &[usize] = &[3, 5, 64];
 
-/// A real bundle, sometimes with damage in its table.
+/// A real bundle, sometimes with damage in its table, and some device name.
 pub fn sample_case(random: &mut Random) -> Case {
+    let (bundle, count) = sample_bundle(random);
+    let device = random.choose(samples::DEVICES).as_bytes().to_vec();
+    let index = some_index(random, count);
+    Case { bundle, zeros: 0, device, index, room: Room::any(random) }
+}
+
+/// A real bundle, sometimes with damage in its table, and how many entries it had.
+pub fn sample_bundle(random: &mut Random) -> (Vec<u8>, usize) {
     let sample = random.choose(samples::BUNDLES);
     let mut bundle = sample.bytes.to_vec();
     let table_end = 32 + sample.entries.iter().map(|(id, _)| 24 + id.len()).sum::<usize>();
@@ -267,19 +280,17 @@ pub fn sample_case(random: &mut Random) -> Case {
             bundle[at] = random.byte();
         }
     }
-    let device = random.choose(samples::DEVICES).as_bytes().to_vec();
-    let index = some_index(random, sample.entries.len());
-    Case { bundle, zeros: 0, device, index, room: Room::any(random) }
+    (bundle, sample.entries.len())
 }
 
-/// Bytes changed, put in or taken out, anywhere in the table.
-pub fn shake(case: &mut Case, random: &mut Random) {
+/// Bytes of a bundle changed, put in or taken out, anywhere in it.
+pub fn shake(bundle: &mut Vec<u8>, random: &mut Random) {
     for _ in 0..random.between(1, 3) {
-        let at = random.below(case.bundle.len().max(1)).min(case.bundle.len());
+        let at = random.below(bundle.len().max(1)).min(bundle.len());
         match random.below(3) {
-            0 if at < case.bundle.len() => case.bundle[at] = random.byte(),
-            1 if at < case.bundle.len() => drop(case.bundle.remove(at)),
-            _ => case.bundle.insert(at, random.byte()),
+            0 if at < bundle.len() => bundle[at] = random.byte(),
+            1 if at < bundle.len() => drop(bundle.remove(at)),
+            _ => bundle.insert(at, random.byte()),
         }
     }
 }

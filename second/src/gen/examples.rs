@@ -1,9 +1,10 @@
-//! The examples of RULES B, B.1 to B.13, B.16 and B.17, processors with hyphens, and our own cards, as cases. `model/examples.rs` says
-//! what comes of them.
+//! The examples of RULES B, B.1 to B.13, B.16 and B.17, processors with hyphens, our own cards, and several device names, as cases.
+//! `model/examples.rs` says what comes of them.
 
-use super::{binaries, bundles, Room};
+use super::{binaries, bundles, each, Room};
 use crate::model::binary_writer::{write_binary, Content, PairParts};
 use crate::model::bundle::packed;
+use crate::model::each::Part;
 use crate::model::{ID, MIXED, NONE, OK, QUERY, TWICE};
 
 /// A bundle with these IDs as spelled and these images, packed.
@@ -221,6 +222,48 @@ pub fn profile_cases() -> Vec<bundles::Case> {
 
 pub fn card_bundle(ids: &[&str]) -> Vec<u8> {
     bundle(&ids.iter().map(|id| (*id, &b"image"[..])).collect::<Vec<_>>())
+}
+
+/// Three entries. The table end is 192, where the first image lies, of 5 bytes; at 197 lie an empty one and one of 3 bytes.
+pub fn three_entries() -> Vec<u8> {
+    bundle(&[(HOST, b"12345"), (PLAIN, b""), (PLAIN_OPENMP, b"abc")])
+}
+
+/// A call with these device names, and as many slots.
+pub fn ask(bundle: Vec<u8>, devices: &[&str]) -> each::Case {
+    let devices: Vec<&[u8]> = devices.iter().map(|device| device.as_bytes()).collect();
+    each::case_of(bundle, &devices)
+}
+
+/// A call with these parts of a buffer, and as many slots.
+pub fn ask_parts(bundle: Vec<u8>, buffer: &str, parts: &[(u64, u64)]) -> each::Case {
+    let names: Vec<Part> = parts.iter().map(|&(start, length)| Part { start, length }).collect();
+    each::Case { bundle, buffer: buffer.as_bytes().to_vec(), slots: names.len(), names, ..each::Case::default() }
+}
+
+/// Names of every answer: entries 0 and 1, NONE, QUERY, and entry 1 again.
+pub const EACH_ANSWER: &[&str] = &[HOST, PLAIN_V4, "openmp-amdgcn-amd-amdhsa-gfx90a", "gfx906", BOTH_STATED];
+
+pub fn each_cases() -> Vec<each::Case> {
+    let first_and_last = ["hip-a-b-c-e63", "hip-a-b-c-e0"];
+    let plain = PLAIN.len() as u64;
+    vec![
+        ask(Vec::new(), &[PLAIN]),
+        ask(bundle(&[]), &[]),
+        ask(bundle(&[]), &[PLAIN]),
+        ask(three_entries(), EACH_ANSWER),
+        each::Case { slots: 7, ..ask(three_entries(), EACH_ANSWER) },
+        each::Case { slots: 4, ..ask(three_entries(), EACH_ANSWER) },
+        ask(three_entries(), &[PLAIN; 16]),
+        ask(three_entries(), &[PLAIN; 17]),
+        each::Case { slots: 0, ..ask(three_entries(), &[PLAIN; 17]) },
+        ask(many(64), &first_and_last),
+        ask(many(65), &first_and_last),
+        ask(bundle(&[(PLAIN, b""), (XNACK_ON, b"")]), &[PLAIN; 17]),
+        ask(lying(&[(0, 3), (2, 2)]), &first_and_last),
+        ask_parts(three_entries(), PLAIN, &[(0, plain), (0, plain + 1), (1, plain), (plain, 0), (u64::MAX, 1)]),
+        ask_parts(three_entries(), "", &[(0, 0), (0, 1), (1, 0), (1 << 63, 1 << 63)]),
+    ]
 }
 
 /// The kinds, flags and string pair of the binary with `arch`/`sm_70`; its strings and its image follow.

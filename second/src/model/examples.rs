@@ -1,5 +1,7 @@
 //! The examples of RULES B, the mistakes of RULES C, `hip` beside `hipv4`, entries by index, images that overlap, processors with hyphens,
-//! and our own cards.
+//! our own cards, and several device names.
+
+mod each;
 
 use super::binaries::{read_all, Binary, Pair};
 use super::binary_writer::{write_binary, Content};

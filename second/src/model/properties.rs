@@ -5,6 +5,7 @@ use super::binaries::read_all;
 use super::binary_writer::{write_binary, PairParts};
 use super::bundle::{check_of, entries, entry_at_of, normalise_of, pick_of, Checked, Entries, Entry, Located, Picked};
 use super::bundle_writer::write_bundle;
+use super::each::{pick_each, Slot};
 use super::id::{
     begins_a_processor, canonical, compatible, meaning, meaning_by, mixed, own_processor, same_meaning, Meaning,
     Reading,
@@ -13,7 +14,7 @@ use super::processors::known;
 use super::*;
 use crate::gen::bundles::{some_count, Draft, Offset, Row};
 use crate::gen::random::Random;
-use crate::gen::{binary_contents, ids, records};
+use crate::gen::{binary_contents, each, ids, records};
 use std::collections::{BTreeMap, BTreeSet};
 
 const CASES: u64 = 3000;
@@ -187,6 +188,30 @@ fn an_index_gives_its_row_and_what_a_pick_gives() {
             let located = entry_at_of(&entries, picked.index);
             assert_eq!((located.position, located.size), (picked.position, picked.size));
         }
+    });
+}
+
+#[test]
+fn each_slot_is_a_pick_and_each_bit_an_entry_that_some_slot_has() {
+    each_case(|random| {
+        let case = each::some_draft(random).case();
+        let mut slots = vec![Slot::default(); case.slots];
+        let picked = pick_each(&case.bundle, &case.buffer, &case.names, &mut slots);
+        assert_eq!((picked.number, picked.place, picked.slots), (OK, 0, case.names.len() as u64));
+        slots.truncate(case.names.len());
+        for (name, slot) in case.names.iter().zip(&slots) {
+            let single = part(&case.buffer, name.start, name.length)
+                .map_or(Picked { number: QUERY, ..Picked::default() }, |device| {
+                    pick(Reading::General, &case.bundle, device)
+                });
+            let Picked { number, index, position, size, .. } = single;
+            assert_eq!(*slot, Slot { number, index, position, size });
+        }
+        for entry in 0..64 {
+            let took = slots.iter().any(|slot| slot.number == OK && slot.index == entry);
+            assert_eq!(picked.word >> entry & 1 == 1, took);
+        }
+        assert_eq!(picked.taken, picked.word.count_ones() as u64);
     });
 }
 

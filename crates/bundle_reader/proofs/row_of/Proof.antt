@@ -1,6 +1,6 @@
 use borrow.Author.Needs.{needs}
 use native.Mathlib.Omega.{arith}
-use Prim.Native.Nat.{_+_, _-_, _≤_}
+use Prim.Native.Nat.{_-_, _≤_}
 use mathlib.Core.Path.{_≡_, refl, ap, _∙_}
 use Rattle.bundle.specs.Table.{rowStart}
 use Rattle.bundle_reader.specs.Examined.{heldRow}
@@ -18,38 +18,17 @@ loop-holds : tie.Need-loop-holds Inv-loop μ-loop
 unfolding rowStart
 loop-holds c = (omega arith, refl)
 
-add-at : tie.Need-add-at Inv-loop μ-loop
-add-at c = let l = c .before .loop in
-    omega (arith, row-here _ _ _ (l .inv .1) (c .before .before .before .pre (l .k) (omega arith)) .id-in)
-
-add-word8-at : tie.Need-add-word8-at Inv-loop μ-loop
-add-word8-at c = let l = c .before .loop in
-    omega (arith, row-here _ _ _ (l .inv .1) (c .before .before .before .pre (l .k) (omega arith)) .id-in)
-
-word8-at-requires : tie.Need-word8-at-requires Inv-loop μ-loop
-word8-at-requires c κs = search needs
-
-add-at-2 : tie.Need-add-at-2 Inv-loop μ-loop
-add-at-2 c = let l = c .before .before .loop in
-    omega (arith, row-here _ _ _ (l .inv .1) (c .before .before .before .before .pre (l .k) (omega arith)) .id-in, c .word8-at .ensures)
-
-add-k : tie.Need-add-k Inv-loop μ-loop
-add-k c = search needs
-
-loop-less : tie.Need-loop-less Inv-loop μ-loop
-loop-less c = search needs
+next-row-requires : tie.Need-next-row-requires Inv-loop μ-loop
+next-row-requires c κs = let l = c .before .loop in row-here _ _ _ (l .inv .1) (c .before .before .before .pre (l .k) (omega arith))
 
 loop-again : tie.Need-loop-again Inv-loop μ-loop
-loop-again c = let l = c .before .before .loop in
-    (omega arith, ap (λ z. l .at + 24 + z) (c .word8-at .ensures) ∙ next-start _ (l .k) (l .at) (l .inv .1))
+loop-again c = let l = c .before .before .loop in (omega arith, c .next-row .ensures ∙ next-start _ (l .k) (l .at) (l .inv .1))
 
 row-at-requires : tie.Need-row-at-requires Inv-loop μ-loop
-row-at-requires c κs = let l = c .before .loop in
-    row-here _ _ _ (l .inv .1) (c .before .before .before .pre (l .k) (omega arith))
+row-at-requires c κs = let l = c .before .loop in row-here _ _ _ (l .inv .1) (c .before .before .before .pre (l .k) (omega arith))
 
 returns : tie.Need-returns Inv-loop μ-loop
-returns c = let l = c .before .before .loop in
-    c .row-at .ensures ∙ ap (heldRow _) (l .inv .1 ∙ ap (rowStart _) (omega arith))
+returns c = let l = c .before .before .loop in c .row-at .ensures ∙ ap (heldRow _) (l .inv .1 ∙ ap (rowStart _) (omega arith))
 
 pub row-of-spec : {M : Type 1} → statement M
 row-of-spec =
@@ -58,12 +37,9 @@ row-of-spec =
     Inv-loop
     μ-loop
     loop-holds
-    add-at
-    add-word8-at
-    word8-at-requires
-    add-at-2
-    add-k
-    loop-less
+    next-row-requires
+    (λ c. search needs)
+    (λ c. search needs)
     loop-again
     row-at-requires
     returns)

@@ -1,6 +1,6 @@
 use borrow.Author.Needs.{needs}
 use native.Mathlib.Omega.{arith}
-use Prim.Native.Nat.{ℕ, _+_, _-_, _≤_, _<_}
+use Prim.Native.Nat.{ℕ, _-_, _≤_, _<_}
 use mathlib.Core.Path.{_≡_, refl, sym, ap, _∙_}
 use mathlib.Core.Bool.{false}
 use borrow.Author.Count.{below-more, below-none}
@@ -32,30 +32,15 @@ returns c = let l = c .before .before .before .loop in
     let p = c .before .before .before .before .before .pre in
     λ R. table-refused R _ (p .0) _ (l .i) (p .1) (bad-first _ (l .i) (l .at) (l .inv .1) (l .inv .3) _ _ (omega arith) (c .before .bad-row .ensures) (c .if1 .taken)) (omega arith)
 
-add-at : tie.Need-add-at Inv-loop μ-loop
-add-at c = omega (arith, fine _ _ _ (c .before .bad-row .ensures) (c .if1 .left) .id-in)
-
-add-word8-at : tie.Need-add-word8-at Inv-loop μ-loop
-add-word8-at c = omega (arith, fine _ _ _ (c .before .bad-row .ensures) (c .if1 .left) .id-in)
-
-word8-at-requires : tie.Need-word8-at-requires Inv-loop μ-loop
-word8-at-requires c κs = search needs
-
-add-at-2 : tie.Need-add-at-2 Inv-loop μ-loop
-add-at-2 c = omega (arith, fine _ _ _ (c .before .before .bad-row .ensures) (c .before .if1 .left) .id-in, c .word8-at .ensures)
-
-add-i : tie.Need-add-i Inv-loop μ-loop
-add-i c = search needs
-
-loop-less : tie.Need-loop-less Inv-loop μ-loop
-loop-less c = search needs
+next-row-requires : tie.Need-next-row-requires Inv-loop μ-loop
+next-row-requires c κs = fine _ _ _ (c .before .bad-row .ensures) (c .if1 .left)
 
 loop-again : tie.Need-loop-again Inv-loop μ-loop
 loop-again c = let l = c .before .before .before .before .loop in
     let s = c .before .before .before .before .before .before .args .s .now in
-    let w = c .word8-at .ensures in (
+    let w = c .next-row .ensures in (
       omega arith,
-      ap (λ z. l .at + 24 + z) w ∙ next-start s (l .i) (l .at) (l .inv .1),
+      w ∙ next-start s (l .i) (l .at) (l .inv .1),
       omega (arith, fine _ _ _ (c .before .before .bad-row .ensures) (c .before .if1 .left) .id-in, w),
       below-more _ (l .i) (l .inv .3) (ap (badRow s) (sym (l .inv .1)) ∙ sym (c .before .before .bad-row .ensures) ∙ c .before .if1 .left),
     )
@@ -75,11 +60,8 @@ table-end-spec =
     loop-holds
     bad-row-requires
     returns
-    add-at
-    add-word8-at
-    word8-at-requires
-    add-at-2
-    add-i
-    loop-less
+    next-row-requires
+    (λ c. search needs)
+    (λ c. search needs)
     loop-again
     returns-2)
