@@ -32,7 +32,7 @@ SECOND := --offline --manifest-path second/Cargo.toml
 BENCH := $(CARGO) run --release --offline --manifest-path bench/Cargo.toml --
 
 .PHONY: demo test install uninstall clean help tool library harness prove tools
-.PHONY: selftest calls stack compare second-test tool-test example install-test build-test gate-test damage bench order profile each
+.PHONY: selftest calls stack compare second-test tool-test example install-test build-test gate-test damage bench order profile each lookup
 
 ## For use
 ##   make               the tool, and the library that it needs
@@ -143,7 +143,8 @@ bench: tools $(TOOL) $(BENCH_CALLS)
 ##   make order         the order of two IDs alone, which is timed in the gate too
 ##   make profile       the calls of the profile beside the general ones, which are timed in the gate too
 ##   make each          one call for several names beside as many for one
-order profile each: tools $(LIBRARY) $(BENCH_CALLS)
+##   make lookup        a lookup in two bundles beside a pick from each
+order profile each lookup: tools $(LIBRARY) $(BENCH_CALLS)
 	LLVM_CONFIG= $(BENCH) $@
 
 ##

@@ -456,17 +456,27 @@ static int compatible(const struct id *entry, const struct id *device) {
     return at == entry->length;
 }
 
+/* Reads a device name, with room for its canonical form. 0 if it breaks the rules. */
+static int read_name(enum reading reading, const uint8_t *name, size_t length, uint8_t *scratch, struct id *device) {
+    return length > 0 && length <= ID_LIMIT && read_id(reading, name, (uint32_t)length, scratch, device);
+}
+
+/* What a bundle has for a device. */
+static struct slot find_entry(const struct bundle *bundle, const struct id *device) {
+    uint64_t k;
+    for (k = 0; k < bundle->count; k++)
+        if (compatible(&bundle->ids[k], device))
+            return (struct slot){OK, k, bundle->entries[k].offset, bundle->entries[k].size};
+    return (struct slot){NONE, 0, 0, 0};
+}
+
 /* What a bundle has for a device name. */
 static struct slot find(enum reading reading, const struct bundle *bundle, const uint8_t *name, size_t name_length) {
     uint8_t scratch[ID_LIMIT];
     struct id device;
-    uint64_t k;
-    if (name_length == 0 || name_length > ID_LIMIT || !read_id(reading, name, (uint32_t)name_length, scratch, &device))
+    if (!read_name(reading, name, name_length, scratch, &device))
         return (struct slot){QUERY, 0, 0, 0};
-    for (k = 0; k < bundle->count; k++)
-        if (compatible(&bundle->ids[k], &device))
-            return (struct slot){OK, k, bundle->entries[k].offset, bundle->entries[k].size};
-    return (struct slot){NONE, 0, 0, 0};
+    return find_entry(bundle, &device);
 }
 
 static struct picked pick(enum reading reading, const uint8_t *bytes, size_t length, const uint8_t *name, size_t name_length) {
@@ -511,6 +521,29 @@ struct picked_each baseline_pick_each(const uint8_t *bytes, size_t length, const
             word |= (uint64_t)1 << slots[k].index;
     }
     return (struct picked_each){OK, 0, count, word, (uint64_t)__builtin_popcountll(word)};
+}
+
+struct looked_up baseline_lookup(const uint8_t *patch, size_t patch_length, const uint8_t *main_bundle, size_t main_length,
+                                 const uint8_t *name, size_t name_length) {
+    const uint8_t *bytes[2] = {patch, main_bundle};
+    const size_t lengths[2] = {patch_length, main_length};
+    struct bundle bundles[2];
+    uint8_t scratch[ID_LIMIT];
+    struct id device;
+    uint64_t k;
+    for (k = 0; k < 2; k++) {
+        struct refusal refusal = read_bundle(GENERAL, bytes[k], lengths[k], &bundles[k]);
+        if (refusal.number != OK)
+            return (struct looked_up){refusal.number, refusal.place, k + 1, 0, 0};
+    }
+    if (!read_name(GENERAL, name, name_length, scratch, &device))
+        return (struct looked_up){QUERY, 0, 0, 0, 0};
+    for (k = 0; k < 2; k++) {
+        struct slot slot = find_entry(&bundles[k], &device);
+        if (slot.number == OK)
+            return (struct looked_up){OK, 0, k + 1, slot.position, slot.size};
+    }
+    return (struct looked_up){NONE, 0, 0, 0, 0};
 }
 
 struct located baseline_entry(const uint8_t *bytes, size_t length, uint64_t index) {

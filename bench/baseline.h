@@ -27,6 +27,11 @@ struct picked_each {
     uint64_t number, place, slots, word, taken;
 };
 
+/* The patch is bundle 1, the main one 2. */
+struct looked_up {
+    uint64_t number, place, bundle, position, size;
+};
+
 struct located {
     uint64_t number, place, position, size, id_position, id_length;
 };
@@ -39,6 +44,8 @@ struct checked baseline_check(const uint8_t *bundle, size_t length);
 struct picked baseline_pick(const uint8_t *bundle, size_t length, const uint8_t *device, size_t device_length);
 struct picked_each baseline_pick_each(const uint8_t *bundle, size_t length, const uint8_t *buffer, size_t buffer_length,
                                       const struct part *names, size_t count, struct slot *slots, size_t room);
+struct looked_up baseline_lookup(const uint8_t *patch, size_t patch_length, const uint8_t *main_bundle, size_t main_length,
+                                 const uint8_t *device, size_t device_length);
 struct located baseline_entry(const uint8_t *bundle, size_t length, uint64_t index);
 struct written baseline_normalise(const uint8_t *bundle, size_t length, uint8_t *out, size_t room);
 

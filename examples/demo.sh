@@ -4,6 +4,7 @@ set -eu
 offload=$(realpath "$1")
 cd "$(dirname "$0")/.."
 bundle=samples/bundles/three-cards.bundle
+patch=samples/bundles/driver.bundle
 work=$(mktemp -d)
 trap 'rm -rf "$work"' EXIT
 
@@ -48,6 +49,11 @@ echo
 echo 'All cards of a station in one call, here three. The exit status says whether each has an image.'
 echo
 show pick "$bundle" hip-amdgcn-amd-amdhsa--gfx906:sramecc+:xnack- hip-amdgcn-amd-amdhsa--gfx1030 hip-amdgcn-amd-amdhsa--gfx1030:cumode+
+
+echo
+echo "Field service sends a small patch beside the factory's bundle. It answers where it has an image for the card; where not, the main bundle does."
+echo
+show pick --patch "$patch" "$bundle" hip-amdgcn-amd-amdhsa--gfx1030 hip-amdgcn-amd-amdhsa--gfx906:sramecc+:xnack-
 
 echo
 echo 'Why does a gfx906 that states neither sramecc nor xnack get none? The nearest entries come first.'

@@ -1,5 +1,6 @@
 /* Offload bundles: files that hold GPU images for several devices. Check a bundle, pick the image for a device or for
- * several, look at each entry, write the bundle's normal form. For x86-64 Linux. docs/RULES.md has all rules in full.
+ * several, from one bundle or from a patch before it, look at each entry, write the bundle's normal form. For x86-64
+ * Linux. docs/RULES.md has all rules in full.
  *
  * A call takes any bytes: nothing needs to be checked first. Every call returns, reads only what it is given, and only
  * the pick_each calls write, to their slots alone, and the normalise calls, to their output alone. No call allocates
@@ -16,8 +17,9 @@
  * one family (offload_pick_number, offload_pick_place, ..), given the same bytes, belong to the same answer. For each
  * family an inline function (offload_pick) makes the calls that are needed and returns the whole answer as a struct.
  *
- * A refusal has its number and its place, and 0 in every other number; it writes nothing. Where a call is accepted, the
- * number is OFFLOAD_OK and the place is 0. One entry that breaks the rules refuses the whole bundle, for every device.
+ * A refusal has its number and its place, and 0 in every other number, but for the bundle that offload_lookup names; it
+ * writes nothing. Where a call is accepted, the number is OFFLOAD_OK and the place is 0. One entry that breaks the rules
+ * refuses the whole bundle, for every device.
  *
  * Each call is proved to return the field of its name in the definition of its family (crates/bundle/specs), by the
  * rules of IDs that are its own (crates/entry_id/specs), and the calls that write to leave in the whole output what the
@@ -251,6 +253,58 @@ OFFLOAD_INLINE struct offload_pick_each_answer offload_pick_each(const uint8_t *
     } else {
         answer.place = offload_pick_each_place(bundle, bundle_length, buffer, buffer_length,
                                                names, name_count, slots, slot_count);
+    }
+    return answer;
+}
+
+/* The numbers of the two bundles in which offload_lookup looks. */
+#define OFFLOAD_PATCH 1
+#define OFFLOAD_MAIN 2
+
+/* Pick the image for a device from two bundles: from a patch, such as field service sends, before the main one. The
+ * patch answers where it has an entry that is compatible with the device name, an entry with an empty image too; the
+ * main bundle answers where the patch has none. Both are checked, whichever answers.
+ * number: OFFLOAD_OK, 1 to 8 or 21 as the check of the patch returns them, then those of the main bundle, then
+ *   OFFLOAD_QUERY, or OFFLOAD_NONE where neither bundle has a compatible entry.
+ * place: as the check of the bundle that is refused returns it, 0 for OFFLOAD_QUERY and OFFLOAD_NONE.
+ * bundle: OFFLOAD_PATCH or OFFLOAD_MAIN, whichever holds the image; on a refusal by 1 to 8 or 21 the one that is refused;
+ *   0 for OFFLOAD_QUERY and OFFLOAD_NONE.
+ * position, size: the image, bytes position to position + size of that bundle, all inside it. An image may be empty. */
+uint64_t offload_lookup_number(const uint8_t *patch, size_t patch_length,
+                               const uint8_t *main_bundle, size_t main_length,
+                               const uint8_t *device, size_t device_length);
+uint64_t offload_lookup_place(const uint8_t *patch, size_t patch_length,
+                              const uint8_t *main_bundle, size_t main_length,
+                              const uint8_t *device, size_t device_length);
+uint64_t offload_lookup_bundle(const uint8_t *patch, size_t patch_length,
+                               const uint8_t *main_bundle, size_t main_length,
+                               const uint8_t *device, size_t device_length);
+uint64_t offload_lookup_position(const uint8_t *patch, size_t patch_length,
+                                 const uint8_t *main_bundle, size_t main_length,
+                                 const uint8_t *device, size_t device_length);
+uint64_t offload_lookup_size(const uint8_t *patch, size_t patch_length,
+                             const uint8_t *main_bundle, size_t main_length,
+                             const uint8_t *device, size_t device_length);
+
+struct offload_lookup_answer {
+    uint64_t number, place, bundle, position, size;
+    const uint8_t *image; /* the image itself, in the patch or in the main bundle; null on a refusal */
+};
+
+OFFLOAD_INLINE struct offload_lookup_answer offload_lookup(const uint8_t *patch, size_t patch_length,
+                                                           const uint8_t *main_bundle, size_t main_length,
+                                                           const uint8_t *device, size_t device_length) {
+    struct offload_lookup_answer answer = {0, 0, 0, 0, 0, NULL};
+    answer.number = offload_lookup_number(patch, patch_length, main_bundle, main_length, device, device_length);
+    if (answer.number == OFFLOAD_QUERY || answer.number == OFFLOAD_NONE)
+        return answer;
+    answer.bundle = offload_lookup_bundle(patch, patch_length, main_bundle, main_length, device, device_length);
+    if (answer.number == OFFLOAD_OK) {
+        answer.position = offload_lookup_position(patch, patch_length, main_bundle, main_length, device, device_length);
+        answer.size = offload_lookup_size(patch, patch_length, main_bundle, main_length, device, device_length);
+        answer.image = (answer.bundle == OFFLOAD_PATCH ? patch : main_bundle) + answer.position;
+    } else {
+        answer.place = offload_lookup_place(patch, patch_length, main_bundle, main_length, device, device_length);
     }
     return answer;
 }

@@ -176,6 +176,51 @@ static void pick_each(const char *what, const struct query *query, uint64_t numb
             single(what, query, i, &slots[i]);
 }
 
+/* Two bundles, the patch before the main one. */
+struct pair {
+    const uint8_t *patch;
+    size_t patch_length;
+    const uint8_t *main_bundle;
+    size_t main_length;
+};
+
+typedef uint64_t look(const uint8_t *, size_t, const uint8_t *, size_t, const uint8_t *, size_t);
+
+static void lookup_number(const char *what, const char *which, look *call, const struct pair *pair, const char *device, uint64_t want) {
+    uint64_t got = call(pair->patch, pair->patch_length, pair->main_bundle, pair->main_length, (const uint8_t *)device, strlen(device));
+    expect(what, which, got, want);
+}
+
+/* How many of a bundle's bytes are compared: a bundle may be very long. */
+static size_t compared(size_t length) {
+    size_t most = SPACE;
+    return length < most ? length : most;
+}
+
+/* An accepted lookup gives what a pick from that bundle gives, and the image itself; a refused one gives no image. Neither bundle is changed. */
+static void lookup(const char *what, const struct pair *pair, const char *device, uint64_t number, uint64_t place, uint64_t bundle, uint64_t position,
+                   uint64_t size) {
+    static uint8_t patch[SPACE], main_bundle[SPACE];
+    const uint8_t *image = number != OFFLOAD_OK ? NULL : (bundle == OFFLOAD_PATCH ? pair->patch : pair->main_bundle) + position;
+    struct offload_lookup_answer answer;
+    memcpy(patch, pair->patch, compared(pair->patch_length));
+    memcpy(main_bundle, pair->main_bundle, compared(pair->main_length));
+    answer = offload_lookup(pair->patch, pair->patch_length, pair->main_bundle, pair->main_length, (const uint8_t *)device, strlen(device));
+    expect(what, "lookup, number", answer.number, number);
+    expect(what, "lookup, place", answer.place, place);
+    expect(what, "lookup, bundle", answer.bundle, bundle);
+    expect(what, "lookup, position", answer.position, position);
+    expect(what, "lookup, size", answer.size, size);
+    expect(what, "lookup, image", answer.image == image, 1);
+    lookup_number(what, "lookup_number", offload_lookup_number, pair, device, number);
+    lookup_number(what, "lookup_place", offload_lookup_place, pair, device, place);
+    lookup_number(what, "lookup_bundle", offload_lookup_bundle, pair, device, bundle);
+    lookup_number(what, "lookup_position", offload_lookup_position, pair, device, position);
+    lookup_number(what, "lookup_size", offload_lookup_size, pair, device, size);
+    expect(what, "lookup, bytes of the patch", (uint64_t)memcmp(patch, pair->patch, compared(pair->patch_length)), 0);
+    expect(what, "lookup, bytes of the main bundle", (uint64_t)memcmp(main_bundle, pair->main_bundle, compared(pair->main_length)), 0);
+}
+
 /* The output holds these bytes, and is otherwise unchanged; it is then made fresh again. */
 static void holds(const char *what, uint8_t *out, const uint8_t *bytes, size_t length) {
     size_t i;
@@ -264,10 +309,9 @@ static size_t make_many(uint8_t *out, size_t count, const struct span *images) {
 static size_t make_shared(uint8_t *out, size_t count, size_t size) {
     struct span images[OFFLOAD_ENTRIES + 1];
     size_t i;
-    for (i = 0; i < count; i++) {
-        images[i].start = 0;
+    memset(images, 0, sizeof images);
+    for (i = 0; i < count; i++)
         images[i].size = size;
-    }
     return make_many(out, count, images);
 }
 
@@ -706,6 +750,190 @@ static void several_names(void) {
     other_bundles_names();
 }
 
+/* Two bundles. */
+
+/* The image for a device, in the bundle of this number. */
+static void found(const char *what, const struct pair *pair, const char *device, uint64_t bundle, size_t position, size_t size) {
+    lookup(what, pair, device, OFFLOAD_OK, 0, bundle, position, size);
+}
+
+/* QUERY, or NONE: no bundle is named. */
+static void not_found(const char *what, const struct pair *pair, const char *device, uint64_t number) {
+    lookup(what, pair, device, number, 0, 0, 0, 0);
+}
+
+/* A bundle is refused, for every device: one of the card, one of the host, one that no entry fits, and no name. */
+static void refused_pair(const char *what, const struct pair *pair, uint64_t number, uint64_t place, uint64_t bundle) {
+    lookup(what, pair, card, number, place, bundle, 0, 0);
+    lookup(what, pair, host, number, place, bundle, 0, 0);
+    lookup(what, pair, "hip-amdgcn-amd-amdhsa-gfx906", number, place, bundle, 0, 0);
+    lookup(what, pair, "", number, place, bundle, 0, 0);
+}
+
+/* A patch of the card, as hipv4, and a main bundle of host and card. */
+static void patch_and_main(void) {
+    static uint8_t patch[SPACE], main_bundle[SPACE];
+    const char *hipv4 = "hipv4-amdgcn-amd-amdhsa-gfx906:xnack-", *gfx906 = "hip-amdgcn-amd-amdhsa-gfx906";
+    size_t length = make_two(main_bundle, host, "HOST.", card, "CARD."), patch_length = make_one(patch, hipv4), at = patch_length - IMAGE;
+    struct pair pair = {patch, patch_length, main_bundle, length}, turned = {main_bundle, length, patch, patch_length};
+    struct pair same = {main_bundle, length, main_bundle, length};
+
+    found("the patch", &pair, card, OFFLOAD_PATCH, at, IMAGE);
+    found("the patch, the other kind", &pair, hipv4, OFFLOAD_PATCH, at, IMAGE);
+    found("the patch, more is stated", &pair, "hip-amdgcn-amd-amdhsa--gfx906:sramecc+:xnack-", OFFLOAD_PATCH, at, IMAGE);
+    found("the main bundle", &pair, host, OFFLOAD_MAIN, 144, IMAGE);
+    not_found("neither, less is stated", &pair, gfx906, OFFLOAD_NONE);
+    not_found("neither, another kind", &pair, "openmp-amdgcn-amd-amdhsa-gfx906:xnack-", OFFLOAD_NONE);
+    not_found("no name", &pair, "", OFFLOAD_QUERY);
+    not_found("a name too long", &pair, long_id(OFFLOAD_ID_LIMIT + 1), OFFLOAD_QUERY);
+    found("turned, the card", &turned, card, OFFLOAD_PATCH, 149, IMAGE);
+    found("turned, the host", &turned, host, OFFLOAD_PATCH, 144, IMAGE);
+    found("one bundle as both", &same, card, OFFLOAD_PATCH, 149, IMAGE);
+    not_found("one bundle as both, neither", &same, gfx906, OFFLOAD_NONE);
+
+    pair.patch_length = make_one(patch, "hip-amdgcn-amd-amdhsa-gfx906:xnack+");
+    found("a patch of the other sign", &pair, card, OFFLOAD_MAIN, 149, IMAGE);
+    pair.patch_length = make_one(patch, "hip-amdgcn-amd-amdhsa-gfx906:sramecc+");
+    found("a patch of other features", &pair, card, OFFLOAD_MAIN, 149, IMAGE);
+    found("a patch of other features, stated", &pair, "hip-amdgcn-amd-amdhsa--gfx906:sramecc+", OFFLOAD_PATCH, pair.patch_length - IMAGE, IMAGE);
+    pair.main_length--;
+    lookup("the patch, and a byte short", &pair, "hip-amdgcn-amd-amdhsa--gfx906:sramecc+", OFFLOAD_RANGE, 1, OFFLOAD_MAIN, 0, 0);
+}
+
+/* Empty images, bundles of no entries, and the most entries in both. */
+static void sizes_of_pairs(void) {
+    static const struct span empty = {0, 0};
+    static uint8_t patch[SPACE], main_bundle[SPACE];
+    const char *id = card;
+    size_t length = make_two(main_bundle, host, "HOST.", card, "CARD."), end = make_table(patch, 1, &id, &empty);
+    struct pair pair = {patch, end, main_bundle, length}, turned = {main_bundle, length, patch, end};
+    found("an empty image of the patch", &pair, card, OFFLOAD_PATCH, end, 0);
+    found("beside an empty image", &pair, host, OFFLOAD_MAIN, 144, IMAGE);
+    found("an empty image of the main bundle, not reached", &turned, card, OFFLOAD_PATCH, 149, IMAGE);
+    turned.patch_length = make_one(main_bundle, host);
+    found("an empty image of the main bundle", &turned, card, OFFLOAD_MAIN, end, 0);
+
+    pair.main_length = make_one(main_bundle, card);
+    pair.patch_length = make_shared(patch, 0, 0);
+    found("a patch of no entries", &pair, card, OFFLOAD_MAIN, pair.main_length - IMAGE, IMAGE);
+    not_found("a patch of no entries, neither", &pair, host, OFFLOAD_NONE);
+    turned.main_length = pair.patch_length;
+    turned.patch_length = pair.main_length;
+    found("a main bundle of no entries", &turned, card, OFFLOAD_PATCH, turned.patch_length - IMAGE, IMAGE);
+    pair.main_length = make_shared(main_bundle, 0, 0);
+    not_found("no entries at all", &pair, card, OFFLOAD_NONE);
+    not_found("no entries at all, no name", &pair, "", OFFLOAD_QUERY);
+
+    end = make_shared(patch, OFFLOAD_ENTRIES, IMAGE);
+    pair.patch_length = end + IMAGE;
+    pair.main_length = make_one(main_bundle, long_id(OFFLOAD_ID_LIMIT));
+    found("the last of many entries", &pair, "host-a63-b-c", OFFLOAD_PATCH, end, IMAGE);
+    found("the longest name", &pair, long_id(OFFLOAD_ID_LIMIT), OFFLOAD_MAIN, pair.main_length - IMAGE, IMAGE);
+    pair.patch_length = make_shared(patch, 10, IMAGE) + IMAGE;
+    end = make_shared(main_bundle, OFFLOAD_ENTRIES, IMAGE);
+    pair.main_length = end + IMAGE;
+    found("an entry of both", &pair, "host-a09-b-c", OFFLOAD_PATCH, pair.patch_length - IMAGE, IMAGE);
+    found("the next entry", &pair, "host-a10-b-c", OFFLOAD_MAIN, end, IMAGE);
+    found("the last of many entries of the main bundle", &pair, "host-a63-b-c", OFFLOAD_MAIN, end, IMAGE);
+    not_found("an entry of neither", &pair, "host-a64-b-c", OFFLOAD_NONE);
+}
+
+/* Bundles that share bytes: the main one is the image of the patch. */
+static void nested_pair(void) {
+    static uint8_t patch[SPACE], inner[SPACE];
+    struct span image = {0, 0};
+    const char *id = card;
+    struct pair pair;
+    size_t end;
+    image.size = make_two(inner, host, "HOST.", card, "CARD.");
+    end = make_table(patch, 1, &id, &image);
+    memcpy(patch + end, inner, image.size);
+    pair.patch = patch;
+    pair.patch_length = end + image.size;
+    pair.main_bundle = patch + end;
+    pair.main_length = image.size;
+    found("the image that is the main bundle", &pair, card, OFFLOAD_PATCH, end, image.size);
+    found("an image inside it", &pair, host, OFFLOAD_MAIN, 144, IMAGE);
+}
+
+/* A bundle that this number refuses, at entry 1 where a place is named. The length. */
+static size_t make_refused(uint8_t *out, uint64_t number) {
+    static const struct span overlap[2] = {{2, 4}, {5, 4}};
+    size_t length = make_two(out, host, "HOST.", card, "CARD.");
+    switch (number) {
+    case OFFLOAD_MAGIC:
+        return 23;
+    case OFFLOAD_COUNT:
+        return 31;
+    case OFFLOAD_TABLE:
+        return 100;
+    case OFFLOAD_ID:
+        return make_two(out, host, "HOST.", "hip-amdgcn", "CARD.");
+    case OFFLOAD_RANGE:
+        return length - 1;
+    case OFFLOAD_OVERLAP:
+        return make_table(out, 2, two_ids, overlap) + BODY;
+    case OFFLOAD_TWICE:
+        return make_two(out, card, "ONE..", "hipv4-amdgcn-amd-amdhsa-gfx906:xnack-", "TWO..");
+    default: /* OFFLOAD_MIXED */
+        return make_two(out, card, "ONE..", "hipv4-amdgcn-amd-amdhsa-gfx906", "TWO..");
+    }
+}
+
+/* Each number refuses either bundle beside a sound one, and where both are refused the patch is named. */
+static void refused_pairs(void) {
+    static const uint64_t numbers[] = {
+        OFFLOAD_MAGIC, OFFLOAD_COUNT, OFFLOAD_TABLE, OFFLOAD_ID, OFFLOAD_RANGE, OFFLOAD_OVERLAP, OFFLOAD_TWICE, OFFLOAD_MIXED,
+    };
+    static uint8_t sound[SPACE], first[SPACE], second[SPACE];
+    size_t length = make_two(sound, host, "HOST.", card, "CARD."), count = sizeof numbers / sizeof *numbers, i, k;
+    for (i = 0; i < count; i++) {
+        uint64_t place = numbers[i] > OFFLOAD_COUNT;
+        struct pair patch = {first, make_refused(first, numbers[i]), sound, length};
+        struct pair main_bundle = {sound, length, first, patch.patch_length};
+        refused_pair(offload_name(numbers[i]), &patch, numbers[i], place, OFFLOAD_PATCH);
+        refused_pair(offload_name(numbers[i]), &main_bundle, numbers[i], place, OFFLOAD_MAIN);
+        for (k = 0; k < count; k++) {
+            struct pair both = {first, patch.patch_length, second, make_refused(second, numbers[k])};
+            refused_pair(offload_name(numbers[i]), &both, numbers[i], place, OFFLOAD_PATCH);
+        }
+    }
+}
+
+/* A byte too many. */
+static void long_pairs(void) {
+    static uint8_t sound[SPACE], refused[SPACE];
+    size_t length = make_two(sound, host, "HOST.", card, "CARD."), refused_length = make_refused(refused, OFFLOAD_RANGE);
+    uint8_t *many = (uint8_t *)calloc(OFFLOAD_LIMIT + 1, 1);
+    struct pair patch = {many, OFFLOAD_LIMIT + 1, sound, length}, main_bundle = {sound, length, many, OFFLOAD_LIMIT + 1};
+    struct pair both = {many, OFFLOAD_LIMIT + 1, many, OFFLOAD_LIMIT};
+    if (many == NULL)
+        exit(3);
+    refused_pair("the patch too long", &patch, OFFLOAD_LENGTH, 0, OFFLOAD_PATCH);
+    refused_pair("the main bundle too long", &main_bundle, OFFLOAD_LENGTH, 0, OFFLOAD_MAIN);
+    refused_pair("both refused, the patch too long", &both, OFFLOAD_LENGTH, 0, OFFLOAD_PATCH);
+    both.patch_length = OFFLOAD_LIMIT;
+    both.main_length = OFFLOAD_LIMIT + 1;
+    refused_pair("both refused, the main bundle too long", &both, OFFLOAD_MAGIC, 0, OFFLOAD_PATCH);
+    main_bundle.patch = refused;
+    main_bundle.patch_length = refused_length;
+    refused_pair("the patch a byte short, the main bundle too long", &main_bundle, OFFLOAD_RANGE, 1, OFFLOAD_PATCH);
+    memcpy(many, sound, length); /* zeros may follow */
+    patch.patch_length = OFFLOAD_LIMIT;
+    found("the longest patch", &patch, card, OFFLOAD_PATCH, 149, IMAGE);
+    free(many);
+}
+
+/* The profile has no call for two bundles. */
+static void two_bundles(void) {
+    by = &general;
+    patch_and_main();
+    sizes_of_pairs();
+    nested_pair();
+    refused_pairs();
+    long_pairs();
+}
+
 /* The profile. */
 
 /* An ID that both readings take, with the canonical form that each makes. */
@@ -866,6 +1094,7 @@ int main(void) {
     alike(&general);
     alike(&profile);
     several_names();
+    two_bundles();
     profile_ids();
     profile_lengths();
     profile_names();

@@ -5,6 +5,7 @@
 set -u
 offload=$1
 files=("$2"/*)
+bundles=$(dirname "$0")/../samples/bundles
 out=$(mktemp -d)
 trap 'rm -rf "$out"' EXIT
 target=hip-amdgcn-amd-amdhsa--gfx906:sramecc-:xnack+
@@ -50,6 +51,9 @@ for profile in '' ' --profile amdgpu'; do
     ends "offload list$profile" '[01]' "$offload" list FILE$profile
     ends "offload pick$profile" '[014]' "$offload" pick FILE $target -o "$out/image"$profile
     ends "offload pick, two devices$profile" '[014]' "$offload" pick FILE $target hip-amdgcn-amd-amdhsa--gfx1030$profile
+    ends "offload pick, as patch$profile" '[014]' "$offload" pick --patch FILE "$bundles/three-cards.bundle" $target -o "$out/image"$profile
+    ends "offload pick, as main$profile" '[014]' "$offload" pick FILE --patch "$bundles/alternative.bundle" $target -o "$out/image"$profile
+    ends "offload pick, as both$profile" '[014]' "$offload" pick --patch FILE FILE $target hip-amdgcn-amd-amdhsa--gfx1030$profile
     ends "offload explain$profile" '[014]' "$offload" explain FILE $target$profile
     ends "offload normalise$profile" '[01]' "$offload" normalise FILE -o "$out/normal"$profile
   }

@@ -5,19 +5,26 @@ set -u
 tests=$(realpath "$(dirname "$0")")
 samples=$(realpath "$tests/../samples")
 image=$samples/images/gfx1030.o
+patched=$samples/images/gfx1030.co
 card=hip-amdgcn-amd-amdhsa--gfx1030
 size=$(stat -c %s "$image")
 line="entry 7, *size $size*"
+patch_line="patch, *size $(stat -c %s "$patched")*"
+main_line="main, *size $size*"
 folder=$(mktemp -d)
 trap 'chmod -R u+rwX "$folder"; rm -rf "$folder"' EXIT
 mkdir "$folder/some files"
 # Copies, for a user who may not read where these lie.
 offload=$folder/offload
 cards=$folder/cards
+driver=$folder/driver # has another image for the card
+other=$folder/other   # has none
 cp "$1" "$offload"
 cp "$samples/bundles/three-cards.bundle" "$cards"
+cp "$samples/bundles/driver.bundle" "$driver"
+cp "$samples/bundles/alternative.bundle" "$other"
 chmod 755 "$folder" "$offload"
-chmod 644 "$cards"
+chmod 644 "$cards" "$driver" "$other"
 cd "$folder/some files" || exit 1
 umask 022
 # shellcheck source=tests/answers.sh
@@ -266,6 +273,59 @@ same file "$image"
 holds file late pipe
 clear
 
+# So with a patch, of which either file may be standard input. Each is read to its end, whoever comes first.
+expect 0 "$patch_line" '' pick --patch - "$cards" "$card" -o file < <(cat "$driver")
+same file "$patched"
+expect 0 "$main_line" '' pick --patch "$other" - "$card" -o file < <(slowly)
+same file "$image"
+expect 0 "$patch_line" '' pick --patch <(cat "$driver") <(slowly) "$card" -o file
+same file "$patched"
+expect 0 "$main_line" '' pick --patch <(cat "$other") <(slowly) "$card" -o file
+same file "$image"
+expect 0 'patch, *' '' pick --patch <(slowly) <(cat "$driver") "$card" -o file
+same file "$image"
+said 0 "$main_line" pick --patch <(cat "$other") - "$card" -o - < <(cat "$cards") >file
+same file "$image"
+mkfifo first second
+slowly >second &
+cat "$other" >first &
+expect 0 "$main_line" '' pick --patch first second "$card" -o file
+wait
+same file "$image"
+holds file first second
+clear
+
+# The output may be a file that is read, the patch or the main bundle: it holds the image then, or what it held. The other is left alone.
+# replaces OUT LINE IMAGE PATCH: OUT is patch or main.
+replaces() {
+  cp "$4" patch
+  cp "$cards" main
+  expect 0 "$2" '' pick --patch patch main "$card" -o "$1"
+  same "$1" "$3"
+}
+replaces patch "$patch_line" "$patched" "$driver"
+same main "$cards"
+replaces main "$patch_line" "$patched" "$driver"
+same patch "$driver"
+replaces patch "$main_line" "$image" "$other"
+same main "$cards"
+replaces main "$main_line" "$image" "$other"
+same patch "$other"
+cp "$cards" main
+ln -s patch link
+expect 4 '' $'*: 10 NONE, *\n  patch is left as it was.' pick --patch patch main "${card}x" -o patch
+expect 1 '' $'*: 9 QUERY, *\n  main is left as it was.' pick --patch patch main gfx1030 -o main
+expect 0 "$main_line" '' pick --patch link main "$card" -o link
+is 'the link' "$(readlink link)" patch
+same patch "$image"
+expect 1 '' $'offload: link: 2 MAGIC: *\n  link is left as it was.' pick --patch link main "$card" -o link
+chmod 444 main
+expect 3 '' 'offload: cannot write main: Permission denied' pick --patch "$driver" main "$card" -o main
+same main "$cards"
+same patch "$image"
+holds link main patch
+clear
+
 # Inputs that hold nothing, and that cannot be read.
 : >empty
 mkdir folder
@@ -275,9 +335,14 @@ expect 1 '' "$magic" check - <empty
 expect 1 '' "$magic" check - < <(:)
 expect 1 '' "$magic" check <(:)
 expect 1 '' "$magic" check /dev/null
+expect 1 '' 'offload: empty: 2 MAGIC*' pick --patch empty "$cards" "$card"
+expect 1 '' 'offload: /dev/null: 2 MAGIC*' pick --patch "$driver" /dev/null "$card"
 expect 3 '' 'offload: cannot read folder: Is a directory' check folder
 expect 3 '' 'offload: cannot read *: Is a directory' check - <folder
 expect 3 '' 'offload: cannot read *: Bad file descriptor' check - <&-
+expect 3 '' 'offload: cannot read folder: Is a directory' pick --patch folder "$cards" "$card"
+expect 3 '' 'offload: cannot read standard input: Bad file descriptor' pick --patch - "$cards" "$card" <&-
+expect 3 '' 'offload: cannot read standard input: Bad file descriptor' pick --patch "$driver" - "$card" <&-
 expect 3 '' 'offload: cannot read missing: No such file or directory' check missing
 holds empty folder
 clear
@@ -319,6 +384,8 @@ else
   refuses hidden/file 'Permission denied'
   refuses own 'Permission denied'
   expect 3 '' 'offload: cannot read hidden/file: Permission denied' check hidden/file
+  expect 3 '' 'offload: cannot read hidden/file: Permission denied' pick --patch hidden/file "$cards" "$card"
+  expect 3 '' 'offload: cannot read hidden/file: Permission denied' pick --patch "$driver" hidden/file "$card"
   expect 3 '' 'offload: cannot read drop: Permission denied' check drop
   writes drop/new
   is 'the owner' "$(stat -c %u drop/new)" "$me"

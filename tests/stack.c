@@ -1,4 +1,4 @@
-/* The stack that each call takes on a bundle of 64 entries, the most there can be, measured on a painted one: below the 64 KiB that the header names. */
+/* The stack that each call takes on bundles of 64 entries, the most there can be, measured on a painted one: below the 64 KiB that the header names. */
 #include "offload.h"
 
 #include <pthread.h>
@@ -11,6 +11,7 @@ enum { STACK = 1 << 20, LIMIT = 64 << 10, PAINT = 0xA5, IMAGE = 100000 };
 static const char device[] = "hip-amdgcn-amd-amdhsa--gfx906:f0+:f1+:f2+:f3+:f4+:f5+";
 static const char profile_device[] = "hip-amdgcn-amd-amdhsa-e15-carrizo:xnack+";
 static uint8_t bundle[32 + OFFLOAD_ENTRIES * (24 + sizeof device) + IMAGE], normal[32 + OFFLOAD_ENTRIES * (24 + sizeof device + IMAGE)];
+static uint8_t patch[sizeof bundle]; /* as many entries, and none for the device */
 static const size_t length = sizeof bundle;
 
 static void word(uint8_t *out, uint64_t value) {
@@ -35,11 +36,11 @@ static size_t profile_id(char *out, unsigned k) {
 }
 
 /* A bundle of the most entries, which share one image at the end. */
-static void make_bundle(size_t (*id)(char *, unsigned)) {
-    uint8_t *row = bundle + 32;
+static void make_bundle(uint8_t *out, size_t (*id)(char *, unsigned)) {
+    uint8_t *row = out + 32;
     unsigned k;
-    memcpy(bundle, "__CLANG_OFFLOAD_BUNDLE__", 24);
-    word(bundle + 24, OFFLOAD_ENTRIES);
+    memcpy(out, "__CLANG_OFFLOAD_BUNDLE__", 24);
+    word(out + 24, OFFLOAD_ENTRIES);
     for (k = 0; k < OFFLOAD_ENTRIES; k++) {
         size_t size = id((char *)row + 24, k);
         word(row, length - IMAGE);
@@ -73,6 +74,18 @@ static void *pick_each(void *out) {
     for (i = 0; i < OFFLOAD_NAMES; i++)
         names[i].length = sizeof device - 1;
     *(uint64_t *)out = offload_pick_each_number(bundle, length, (const uint8_t *)device, sizeof device - 1, names, OFFLOAD_NAMES, slots, OFFLOAD_NAMES);
+    return out;
+}
+
+/* The patch answers. */
+static void *lookup_patch(void *out) {
+    *(uint64_t *)out = offload_lookup_number(bundle, length, patch, length, (const uint8_t *)device, sizeof device - 1);
+    return out;
+}
+
+/* The main bundle answers. */
+static void *lookup_main(void *out) {
+    *(uint64_t *)out = offload_lookup_number(patch, length, bundle, length, (const uint8_t *)device, sizeof device - 1);
     return out;
 }
 
@@ -125,6 +138,8 @@ int main(void) {
         {"entry", entry_at, general_id},
         {"pick", pick, general_id},
         {"pick for 16 names", pick_each, general_id},
+        {"lookup, in the patch", lookup_patch, general_id},
+        {"lookup, in the main bundle", lookup_main, general_id},
         {"normalise", normalise, general_id},
         {"check by the profile", profile_check, profile_id},
         {"pick by the profile", profile_pick, profile_id},
@@ -134,9 +149,10 @@ int main(void) {
     uint64_t answer = 0;
     int wrong = 0;
     base = depth(nothing, &answer);
+    make_bundle(patch, profile_id);
     for (i = 0; i < sizeof calls / sizeof *calls; i++) {
         size_t bytes;
-        make_bundle(calls[i].id);
+        make_bundle(bundle, calls[i].id);
         bytes = depth(calls[i].call, &answer) - base;
         printf("stack of %s: %zu bytes\n", calls[i].name, bytes);
         if (bytes >= LIMIT || answer != OFFLOAD_OK) {

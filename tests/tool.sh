@@ -11,6 +11,7 @@ fields=$samples/bundles/five-fields.bundle
 generic=$samples/bundles/generic.bundle
 short=$samples/bundles/generic-short.bundle
 alternative=$samples/bundles/alternative.bundle
+driver=$samples/bundles/driver.bundle
 processors=$top/docs/amdgpu-processors.tsv
 by=(--profile amdgpu)
 folder=$(mktemp -d)
@@ -48,7 +49,8 @@ bundle() {
 
 # Help and version.
 statuses='*Exit status:*0  accepted*1  refused*2  bad usage*3  a file *4  no image for this device (NONE)'
-all="offload [0-9]*.[0-9]*.[0-9]*: bundles of GPU images*offload check FILE*offload pick FILE DEVICE.. [[]-o OUT] *$statuses"
+all="offload [0-9]*.[0-9]*.[0-9]*: bundles of GPU images*offload check FILE*offload pick FILE DEVICE.. [[]--patch PATCH] [[]-o OUT]  find *"
+all+="*FILE *DEVICE *--patch PATCH *-o OUT *--profile amdgpu *--json *$statuses"
 for word in help -h --help; do
   expect 0 "$all" '' $word
   expect 0 "offload list FILE [[]--profile amdgpu] [[]--json]*for each entry*$statuses" '' $word list
@@ -94,6 +96,11 @@ for marks in '1 1 sramecc, xnack' '0 1 xnack' '0 0 none'; do
   has 'the manual page' "$(words "$top/tool/offload.1")" " $features $(named "$sramecc" "$xnack") ."
 done
 is 'rows of the table' "$(grep -vc '^#' "$processors")" 50
+# The manual page has every option of the help, and the words of pick.
+for text in '.BI --patch " PATCH" ' '.BI -o " OUT" ' '.B --profile amdgpu ' '.B --json ' '.B -- ' \
+  '.B offload pick .I FILE DEVICE .RB [ --patch .IR PATCH ] .RB [ -o .IR OUT ] .RB [ "--profile amdgpu" ] .RB [ --json ] '; do
+  has 'the manual page' "$(words "$top/tool/offload.1")" "$text"
+done
 help() {
   local word pattern="offload $2 [[]--profile amdgpu] [[]--json]*$statuses"
   expect 0 "$pattern" '' help "$1"
@@ -104,10 +111,12 @@ help() {
 }
 help check 'check FILE'
 help list 'list FILE'
-help pick 'pick FILE DEVICE.. [[]-o OUT]'
+help pick 'pick FILE DEVICE.. [[]--patch PATCH] [[]-o OUT]'
+has 'help pick' "$(words ../output)" ' --patch PATCH a bundle that pick looks in before FILE'
 help explain 'explain FILE DEVICE'
 help normalise 'normalise FILE -o OUT'
 help normalize 'normalise FILE -o OUT'
+for word in check list explain normalise; do is "a patch in help $word" "$("$offload" help $word | grep -ci patch)" 0; done
 expect 0 'offload [0-9]*.[0-9]*.[0-9]*' '' --version
 expect 2 '' $'offload: unexpected word now\nTry: offload help' --version now
 holds
@@ -144,6 +153,22 @@ usage 'missing DEVICE' pick pick -- "$cards"
 usage 'missing -o OUT' normalise normalise "$cards"
 usage 'missing -o OUT' normalise normalize "$cards"
 usage 'missing FILE' normalise normalise -o out
+usage 'no file name after --patch' pick pick "$cards" gfx906 --patch
+usage 'no file name after --patch' pick pick --patch= "$cards" gfx906
+usage 'no file name after --patch' pick pick "$cards" --patch '' gfx906
+usage 'a second --patch' pick pick --patch "$driver" "$cards" gfx906 --patch="$driver"
+usage 'missing FILE' pick pick --patch "$driver"
+usage 'missing DEVICE' pick pick --patch "$driver" "$cards"
+usage "$several" pick pick --patch "$driver" "$cards" gfx906 more -o out
+usage 'PATCH and FILE cannot both be standard input' pick pick --patch - - gfx906
+usage 'PATCH and FILE cannot both be standard input' pick pick - --json gfx906 gfx906 --patch=-
+usage 'unknown option --patches' pick pick --patches "$driver" "$cards" gfx906
+usage 'unknown option --patch' '' --patch "$driver" pick "$cards" gfx906
+for word in check list explain normalise; do
+  usage 'only pick has the option --patch' $word $word --patch "$driver" "$cards"
+  usage 'only pick has the option --patch' $word $word "$cards" --patch="$driver" gfx906 -o out
+  usage 'only pick has the option --patch' $word $word "$cards" --patch
+done
 usage 'the only profile is amdgpu, not nvptx' check check "$cards" --profile nvptx
 usage 'the only profile is amdgpu, not AMDGPU' list list --profile=AMDGPU "$cards"
 usage 'the only profile is amdgpu, not --json' check check --profile --json "$cards"
@@ -250,9 +275,10 @@ rm ./-
 refusal() {
   printf 'offload: %s: %s%s: *.%s\n  *.' "$1" "$2" "${3:+, $3}" "${4:+ $4}"
 }
-# object FILE NUMBER NAME [KEYS [PROFILE]]: a refusal in JSON.
+# object FILE NUMBER NAME [KEYS [PROFILE [PATCH]]]: a refusal in JSON.
 object() {
-  printf '{"file":"%s",%s"number":%s,"name":"%s",%s"sentence":"*.",*"advice":"*."*}' "$1" "${5:+\"profile\":\"$5\",}" "$2" "$3" "${4-}"
+  printf '{"file":"%s",%s' "$1" "${6:+\"patch\":\"$6\",}"
+  printf '%s"number":%s,"name":"%s",%s"sentence":"*.",*"advice":"*."*}' "${5:+\"profile\":\"$5\",}" "$2" "$3" "${4-}"
 }
 expect 1 '' "$(refusal "$cards" '9 QUERY' 'device "gfx906"')$left" pick "$cards" gfx906 -o out
 expect 1 '' "$(refusal "$cards" '9 QUERY' 'device ""')" pick "$cards" '' -o new
@@ -369,6 +395,7 @@ alone() {
 }
 devices=("$one" "$two" host-x86_64-unknown-linux-gnu "${gfx}906:xnack+:sramecc-" "${gfx/--/-}9-generic:xnack-" "${gfx}11-generic" "${gfx/gfx/fiji}" "${gfx}803" \
   "${gfx/hip/openmp}906" "${gfx/hip/hipv4}1030:cumode+" "${gfx}906:xnack" gfx906 hip)
+declare -A single
 for sample in "${accepted[@]}"; do
   for reading in '' --profile=amdgpu; do
     wanted=
@@ -377,6 +404,7 @@ for sample in "${accepted[@]}"; do
       # shellcheck disable=SC2086
       line=$(alone "$sample" "$device" $reading)
       status=$?
+      single[$sample $device $reading]=$line
       wanted+=$line$'\n'
       [[ $status == 0 || $worst == 1 ]] || worst=$status
     done
@@ -388,6 +416,240 @@ for sample in "${accepted[@]}"; do
   done
 done
 holds many short unknown
+rm ./*
+
+# A patch before the main bundle: the patch answers where it has an entry for the device, the main bundle where the patch has none. hip and hipv4 are one
+# kind across the two, and the option may stand anywhere.
+# finds ANSWER IMAGE WORD..: the answer, without -o and with it, and what is written.
+finds() {
+  expect 0 "$1" '' pick "${@:3}"
+  expect 0 "$1" '' pick -o out "${@:3}"
+  same out "$samples/images/$2"
+}
+patch=(--patch "$driver")
+linux=host-x86_64-unknown-linux
+two_patch='patch, offset 4096, size 3288'
+one_main='main, offset 2602, size 2048'
+finds "$two_patch" gfx1030.co "${patch[@]}" "$cards" "$two"
+finds "$two_patch" gfx1030.co "$cards" --patch="$driver" "${two/hip/hipv4}"
+finds "$two_patch" gfx1030.co "$cards" "$two:cumode+" "${patch[@]}"
+finds 'patch, offset 8192, size 3048' gfx906-sramecc-xnack+.co "$cards" "${patch[@]}" -- "${gfx/--/-}906:xnack+:sramecc-"
+finds "$one_main" gfx906-sramecc+xnack-.o "${patch[@]}" "$cards" "$one"
+finds "$one_main" gfx906-sramecc+xnack-.o --patch="$driver" "$cards" "${one/hip/hipv4}"
+# The other way round; a bundle as its own patch; a patch of no entries, and a main bundle of none.
+bundle 0 >none
+finds 'patch, offset 14922, size 2248' gfx1030.o --patch "$cards" "$driver" "$two"
+finds 'patch, offset 2602, size 2048' gfx906-sramecc+xnack-.o --patch "$cards" "$cards" "$one"
+finds 'main, offset 14922, size 2248' gfx1030.o --patch none "$cards" "$two"
+finds 'patch, offset 14922, size 2248' gfx1030.o --patch "$cards" none "$two"
+# An empty image is an answer, of the patch too.
+# finds_nothing ANSWER WORD..
+finds_nothing() {
+  printf old >out
+  expect 0 "$1" '' pick -o out "${@:2}"
+  same out empty
+}
+: >empty
+bundle 0 "$two" >blank
+finds_nothing "patch, offset $(stat -c %s blank), size 0" --patch blank "$cards" "$two"
+finds_nothing "patch, offset $(stat -c %s blank), size 0" --patch blank "$cards" "${two/hip/hipv4}"
+finds_nothing 'patch, offset 4096, size 0' "${patch[@]}" "$cards" $linux
+finds_nothing 'main, offset 554, size 0' "${patch[@]}" "$cards" $linux-gnu
+# In JSON an image has its bundle, the number and the path, in the place of an index.
+# about PATCH FILE [PROFILE]: how an object about two bundles begins.
+about() {
+  printf '{"file":"%s","patch":"%s",%s' "$2" "$1" "${3:+\"profile\":\"$3\",}"
+}
+# held DEVICE BUNDLE PATH OFFSET SIZE
+held() {
+  printf '"number":0,"name":"OK","device":"%s","bundle":%s,"path":"%s","offset":%s,"size":%s}' "$@"
+}
+expect 0 "$(about "$driver" "$cards")$(held "$two" 1 "$driver" 4096 3288)" '' pick "${patch[@]}" "$cards" "$two" --json
+expect 0 "$(about "$driver" "$cards")$(held "$one" 2 "$cards" 2602 2048)" '' pick --json "$cards" "$one" "${patch[@]}" -o out
+expect 0 "$(about "$driver" "$cards" amdgpu)$(held "$two" 1 "$driver" 4096 3288)" '' pick "${by[@]}" "${patch[@]}" "$cards" "$two" --json
+expect 0 "$(about "$cards" "$cards")$(held "$two" 1 "$cards" 14922 2248)" '' pick --patch "$cards" "$cards" "$two" --json
+name=$'b\xff"'
+spelled='b\\\\xff\\"'
+cp none "$name"
+expect 0 "$(about "$spelled" "$cards")$(held "$two" 2 "$cards" 14922 2248)" '' pick --patch "$name" "$cards" "$two" --json
+expect 0 "$(about "$cards" "$spelled")$(held "$two" 1 "$cards" 14922 2248)" '' pick --patch "$cards" "$name" "$two" --json
+rm "$name"
+# Where neither has an image, both files are named. A device name that is refused is told as without a patch.
+neither_sentence="Neither bundle has an entry that fits this device:${sentence#*device:}"
+neither_advice="${advice%.}: ask it about both files."
+# neither DEVICE [PATCH FILE]
+neither() {
+  printf 'offload: %s and %s: 10 NONE, device "%s": %s\n  %s' "${2-$driver}" "${3-$cards}" "$1" "$neither_sentence" "$neither_advice"
+}
+printf old >out
+cp out kept
+expect 4 '' "$(neither "${gfx}906")" pick "${patch[@]}" "$cards" "${gfx}906"
+expect 4 '' "$(neither "${gfx}906")" pick "${patch[@]}" "$cards" "${gfx}906" -o new
+expect 4 '' "$(neither "${gfx}906")$left" pick "${patch[@]}" "$cards" "${gfx}906" -o out
+expect 4 '' "$(neither "$two" none none)" pick --patch none none "$two"
+expect 4 '' "$(neither "$two" 'standard input' none)" pick --patch - none "$two" < <(bundle 0)
+expect 4 '' "$(neither "$two" none 'standard input')" pick --patch none - "$two" < <(bundle 0)
+neither_object="\"number\":10,\"name\":\"NONE\",\"device\":\"${gfx}906\",\"sentence\":\"$neither_sentence\",\"advice\":\"$neither_advice\""
+expect 4 "$(about "$driver" "$cards")$neither_object}" '' pick "${patch[@]}" "$cards" "${gfx}906" --json
+expect 4 "$(about "$driver" "$cards")$neither_object,\"kept\":\"out\"}" '' pick "${patch[@]}" "$cards" "${gfx}906" --json -o out
+expect 4 '' "$(about "$driver" "$cards")$neither_object}" pick "${patch[@]}" "$cards" "${gfx}906" --json -o -
+expect 1 '' "$(query gfx906)" pick "${patch[@]}" "$cards" gfx906 -o new
+expect 1 '' "$(query '')$left" pick "${patch[@]}" "$cards" '' -o out
+expect 1 '' "$(refusal 'standard input' '9 QUERY' 'device "-"')" pick "${patch[@]}" - - <"$cards"
+expect 1 "$(object "$cards" 9 QUERY '"device":"gfx906",' '' "$driver")" '' pick "${patch[@]}" "$cards" gfx906 --json
+same out kept
+holds blank empty kept none out
+
+# Several devices: a line for each, as many as there are, and none about entries taken.
+two_line="$two: $two_patch"
+one_line="$one: $one_main"
+none_line="${gfx}906: 10 NONE"
+# both LINE..
+both() {
+  printf '%s\n' "$@"
+}
+expect 0 "$(both "$two_line" "$one_line")" '' pick "${patch[@]}" "$cards" "$two" "$one"
+expect 0 "$(both "$one_line" "$two_line" "$one_line")" '' pick "$cards" "$one" "$two" --patch="$driver" "$one"
+expect 4 "$(both "$one_line" "$none_line")" "$(neither "${gfx}906")" pick "${patch[@]}" "$cards" "$one" "${gfx}906"
+expect 4 "$(both "$none_line" "$none_line")" "$(neither "${gfx}906")"$'\n'"$(neither "${gfx}906")" pick "${patch[@]}" "$cards" "${gfx}906" "${gfx}906"
+expect 1 "$(both 'gfx906: 9 QUERY' "$two_line" "$none_line")" "$(query gfx906)"$'\n'"$(neither "${gfx}906")" \
+  pick "${patch[@]}" "$cards" gfx906 "$two" "${gfx}906"
+expect 1 "$(both "$none_line" ': 9 QUERY')" "$(neither "${gfx}906")"$'\n'"$(query '')" pick "${patch[@]}" "$cards" "${gfx}906" ''
+expect 1 "$(lines 1 '--patch: 9 QUERY' "$two: entry 7, offset 14922, size 2248")" "$(query --patch)" pick "$cards" -- --patch "$two"
+many=()
+wanted=
+for k in {1..300}; do
+  many+=("$two")
+  wanted+=$two_line$'\n'
+done
+expect 0 "$wanted$one_line" '' pick "${patch[@]}" "$cards" "${many[@]}" "$one"
+expect 0 "$wanted$one_line" '' pick "${patch[@]}" "$cards" "${many[@]}" "$one" "${by[@]}"
+is 'lines of pick' "$(wc -l <../output)" 301
+items="[[]{$(held "$two" 1 "$driver" 4096 3288),{$neither_object},{$(held "$one" 2 "$cards" 2602 2048)]}"
+expect 4 "$(about "$driver" "$cards")\"number\":0,\"name\":\"OK\",\"devices\":$items" '' pick "${patch[@]}" "$cards" "$two" "${gfx}906" "$one" --json
+expect 1 "$(about "$driver" "$cards")\"number\":0,\"name\":\"OK\",\"devices\":[[]{\"number\":9,*},{$(held "$two" 1 "$driver" 4096 3288)]}" '' \
+  pick "${patch[@]}" "$cards" --json x "$two"
+# Each line is what a pick from the patch says alone or, where that is NONE, one from the main bundle: of every two samples, in both readings.
+for sample in "${accepted[@]}"; do
+  for other in "${accepted[@]}"; do
+    for reading in '' --profile=amdgpu; do
+      wanted=
+      for device in "${devices[@]}"; do
+        line=${single[$sample $device $reading]}
+        which='patch'
+        [[ $line != *': 10 NONE' ]] || { line=${single[$other $device $reading]}; which='main'; }
+        [[ $line != *': entry '* ]] || line="$device: $which, ${line#*, }"
+        wanted+=$line$'\n'
+      done
+      # shellcheck disable=SC2086
+      expect 1 "${wanted%$'\n'}" '*' pick --patch "$sample" "$other" "${devices[@]}" $reading
+    done
+  done
+done
+holds blank empty kept none out
+
+# What refuses a bundle is told as check tells it: of the patch, then of the main bundle, then of the device name. Both are checked, whichever has an
+# image.
+# told FILE PATCH MAIN [OPTION]: the file, one of the two, is refused, for every device and for several, in text and in JSON.
+told() {
+  local text object bundle=1 device option=("${@:4}")
+  [ "$1" = "$2" ] || bundle=2
+  text=$("$offload" check "$1" "${option[@]}" 2>&1)
+  object=$("$offload" check "$1" "${option[@]}" --json |
+    sed "s|^{\"file\":\"$1\"|{\"file\":\"$3\",\"patch\":\"$2\"|; s|\"name\":\"[A-Z]*\"|&,\"bundle\":$bundle,\"path\":\"$1\"|")
+  for device in "$two" "${gfx}906" gfx906; do
+    expect 1 '' "$text" pick --patch "$2" "$3" "$device" "${option[@]}"
+  done
+  expect 1 '' "$text" pick --patch "$2" "$3" gfx906 "$two" "${option[@]}"
+  expect 1 '' "$text$left" pick --patch "$2" "$3" "$two" -o out "${option[@]}"
+  expect 1 "$object" '' pick --patch "$2" "$3" "$two" --json "${option[@]}"
+  expect 1 "$object" '' pick --patch "$2" "$3" "$two" gfx906 --json "${option[@]}"
+}
+damaged=(length magic count table id range overlap twice mixed)
+truncate -s 1073741825 length
+head -c 23 "$cards" >magic
+head -c 31 "$cards" >count
+head -c 200 "$cards" >table
+bundle 0 host-a-b-c hip-a >id
+head -c -1 "$cards" >range
+cp "$samples/refused/overlap.bundle" overlap
+bundle 0 hip-a-b-c hipv4-a-b-c >twice
+bundle 0 hip-a-b-c-gfx1 hip-a-b-c-gfx1:x+ >mixed
+for file in "${damaged[@]}"; do
+  for reading in '' --profile=amdgpu; do
+    told "$file" "$file" "$cards" $reading
+    told "$file" "$driver" "$file" $reading
+    told "$file" "$file" "$file" $reading
+    text=$("$offload" check "$file" $reading 2>&1)
+    for other in "${damaged[@]}"; do
+      expect 1 '' "$text" pick --patch "$file" "$other" "$two" $reading
+    done
+  done
+done
+same out kept
+expect 1 '' "offload: range: 6 RANGE, entry 7 \"$two\" (offset 14922, size 2248 in a file of 17169 bytes): *" pick "${patch[@]}" range "$two"
+expect 1 "$(object range 6 RANGE "\"bundle\":2,\"path\":\"range\",\"place\":7,\"id\":\"$two\",\"offset\":14922,\"size\":2248," '' "$driver")" '' \
+  pick "${patch[@]}" range "$two" --json
+expect 1 "$(object range 3 COUNT '"bundle":1,"path":"count",' '' count)" '' pick --patch count range "$two" --json
+# By the profile alone: an ID or a device name that it does not know, two names of one processor, and an image under another name.
+bundle 0 "${gfx}907" >unknown
+told unknown unknown "$cards" "${by[@]}"
+told unknown "$driver" unknown "${by[@]}"
+expect 0 'main, offset 14922, size 2248' '' pick --patch unknown "$cards" "$two"
+expect 0 "$two_patch" '' pick "${patch[@]}" unknown "$two"
+expect 4 '' "$(neither "$slip")" pick "${patch[@]}" "$cards" "$slip"
+expect 1 '' "$said" pick "${patch[@]}" "$cards" "$slip" "${by[@]}"
+expect 1 "$(object "$cards" 9 QUERY "\"device\":\"$slip\",\"processor\":\"gfx1O30\"," amdgpu "$driver")" '' \
+  pick "${patch[@]}" "$cards" "$slip" "${by[@]}" --json
+expect 1 "$(both "$two_line" "$slip: 9 QUERY")" "$said" pick "${patch[@]}" "$cards" "$two" "$slip" "${by[@]}"
+expect 1 '' "$(refusal range '6 RANGE' 'entry 7 *')" pick "${patch[@]}" range "$slip" "${by[@]}"
+expect 1 '' "$(refusal unknown '5 ID' 'entry 0 *' 'It is "gfx907".')" pick --patch unknown range "$slip" "${by[@]}"
+bundle 0 "${gfx/gfx/fiji}" "${gfx}803" >names
+told names names "$cards" "${by[@]}"
+told names "$driver" names "${by[@]}"
+expect 0 "patch, offset $(stat -c %s names), size 0" '' pick --patch names "$alternative" "${gfx}803"
+bundle 0 "${gfx}803" >primary
+expect 0 "main, offset $(stat -c %s primary), size 0" '' pick --patch "$alternative" primary "${gfx}803"
+finds 'patch, offset 257, size 2032' gfx803.o --patch "$alternative" primary "${gfx}803" "${by[@]}"
+finds 'main, offset 257, size 2032' gfx803.o --patch primary "$alternative" "${gfx/gfx/fiji}"
+finds_nothing "patch, offset $(stat -c %s primary), size 0" --patch primary "$alternative" "${gfx/gfx/fiji}" "${by[@]}"
+finds 'main, offset 257, size 2032' gfx803.o "${patch[@]}" "$alternative" "${gfx/gfx/polaris}11" "${by[@]}"
+primary_sentence="${neither_sentence/processor must/processor (an alternative name means its primary) must}"
+primary_advice="${neither_advice/DEVICE says/DEVICE --profile amdgpu says}"
+expect 4 '' "offload: $driver and $alternative: 10 NONE, device \"${gfx}906\": $primary_sentence"$'\n'"  $primary_advice" \
+  pick "${patch[@]}" "$alternative" "${gfx}906" "${by[@]}"
+expect 4 "$(about "$driver" "$alternative" amdgpu)\"number\":10,*,\"sentence\":\"$primary_sentence\",\"advice\":\"$primary_advice\"}" '' \
+  pick "${patch[@]}" "$alternative" "${gfx}906" "${by[@]}" --json
+holds blank count empty id kept length magic mixed names none out overlap primary range table twice unknown
+
+# Either file may be standard input. One that cannot be read is named, the patch first.
+expect 0 "$two_patch" '' pick --patch - "$cards" "$two" -o out <"$driver"
+same out "$samples/images/gfx1030.co"
+expect 0 "$two_patch" '' pick --patch=- "$cards" "$two" -o out < <(cat "$driver")
+same out "$samples/images/gfx1030.co"
+expect 0 "$one_main" '' pick "${patch[@]}" - "$one" -o out < <(cat "$cards")
+same out "$samples/images/gfx906-sramecc+xnack-.o"
+expect 0 "$(both "$two_line" "$one_line")" '' pick - "$two" "$one" "${patch[@]}" <"$cards"
+expect 0 "$(about - "$cards")$(held "$two" 1 - 4096 3288)" '' pick --patch - "$cards" "$two" --json <"$driver"
+expect 0 "$(about "$driver" -)$(held "$one" 2 - 2602 2048)" '' pick "${patch[@]}" - "$one" --json <"$cards"
+expect 1 '' "$(refusal 'standard input' '6 RANGE' 'entry 7 *')" pick --patch - "$cards" "$two" <range
+expect 1 '' "$(refusal 'standard input' '6 RANGE' 'entry 7 *')" pick "${patch[@]}" - "$two" <range
+expect 1 "$(object - 2 MAGIC '"bundle":2,"path":"-",' '' "$driver")" '' pick "${patch[@]}" - "$two" --json
+missing='No such file or directory'
+for device in "$two" gfx906; do
+  expect 3 '' "offload: cannot read missing: $missing" pick --patch missing "$cards" "$device"
+  expect 3 '' "offload: cannot read missing: $missing" pick "${patch[@]}" missing "$device" -o out
+  expect 3 '' "offload: cannot read missing: $missing" pick --patch missing absent "$device" "$two"
+  expect 3 '' "offload: cannot read missing: $missing" pick --patch range missing "$device"
+  expect 3 "{\"file\":\"missing\",\"cannot\":\"read\",\"reason\":\"$missing\"}" '' pick --patch missing "$cards" "$device" --json
+  expect 3 "{\"file\":\"missing\",\"cannot\":\"read\",\"reason\":\"$missing\"}" '' pick "${patch[@]}" missing "$device" "$device" --json
+done
+expect 3 '' "offload: cannot read --json: $missing" pick --patch --json "$cards" "$two"
+expect 3 '' 'offload: cannot read .: Is a directory' pick --patch . "$cards" "$two"
+expect 3 '' 'offload: cannot read .: Is a directory' pick "${patch[@]}" . "$two"
+expect 3 '' 'offload: cannot read standard input: Is a directory' pick --patch - "$cards" "$two" <.
+expect 3 '' "offload: cannot write missing/out: $missing" pick "${patch[@]}" "$cards" "$two" -o missing/out
+expect 3 "{\"file\":\"missing/out\",\"cannot\":\"write\",\"reason\":\"$missing\"}" '' pick "${patch[@]}" "$cards" "$one" -o missing/out --json
 rm ./*
 
 head -c 31 "$cards" >-o
@@ -1110,6 +1372,10 @@ written() {
 }
 written 'entry 7, offset 14922, size 2248' out pick "$cards" "${gfx}1030" -o -
 written '{"file":"-",*"size":2248}' out pick - "${gfx}1030" --json -o - <"$cards"
+written 'main, offset 14922, size 2248' out pick --patch "$alternative" "$cards" "${gfx}1030" -o -
+written 'main, offset 14922, size 2248' out pick --patch "$alternative" - "${gfx}1030" -o - <"$cards"
+written 'patch, offset 14922, size 2248' out pick --patch - "$alternative" "${gfx}1030" -o - < <(cat "$cards")
+written '{"file":"*","patch":"-",*"bundle":1,"path":"-",*"size":2248}' out pick --patch - "$alternative" "${gfx}1030" --json -o - <"$cards"
 expect 0 'written, *' '' normalise "$cards" -o normal
 written 'written, length 17170' normal normalise "$cards" -o -
 written '{"file":"-",*"length":17170}' normal normalise -o - - --json < <(cat "$cards")
@@ -1140,6 +1406,8 @@ full list "$cards" --json
 full explain "$cards" "${gfx}1030"
 full pick "$cards" "${gfx}1030" -o -
 full pick "$cards" "${gfx}1030" "${gfx}1030"
+full pick --patch "$driver" "$cards" "${gfx}1030" -o -
+full pick --patch "$driver" "$cards" "${gfx}1030" "${gfx}1030"
 full help
 
 [ $wrong = 0 ] && echo "offload: $tried answers as expected"

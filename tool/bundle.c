@@ -7,11 +7,11 @@
 #include <stdlib.h>
 
 enum status check(const struct request *request) {
-    struct bytes bundle = request->files[0];
+    struct bytes bundle = request->files[0].bytes;
     struct offload_check_answer answer = request->reading->check(bundle.start, bundle.length);
     struct json object;
     if (answer.number != OFFLOAD_OK)
-        return refuse(request, NULL, answer.number, answer.place);
+        return refuse(request, &request->files[0], NULL, answer.number, answer.place);
     if (!request->json) {
         fprintf(request->answer, "accepted, entries %" PRIu64 "\n", answer.count);
         return ACCEPTED;
@@ -50,7 +50,7 @@ static void tell_length(const struct request *request, uint64_t length) {
 
 static enum status write_normal_form(const struct request *request) {
     size_t length;
-    uint8_t *normal = normal_form(request->reading, request->files[0], &length);
+    uint8_t *normal = normal_form(request->reading, request->files[0].bytes, &length);
     struct bytes content = {normal, length};
     const char *failure = normal == NULL ? "Not enough memory" : file_write(request->output, content);
     free(normal);
@@ -61,8 +61,10 @@ static enum status write_normal_form(const struct request *request) {
 }
 
 enum status normalise(const struct request *request) {
-    struct bytes bundle = request->files[0];
+    struct bytes bundle = request->files[0].bytes;
     uint8_t none[1];
     struct offload_normalise_answer answer = request->reading->normalise(bundle.start, bundle.length, none, 0);
-    return answer.number == OFFLOAD_ROOM ? write_normal_form(request) : refuse(request, NULL, answer.number, answer.place);
+    if (answer.number == OFFLOAD_ROOM)
+        return write_normal_form(request);
+    return refuse(request, &request->files[0], NULL, answer.number, answer.place);
 }

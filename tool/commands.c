@@ -26,6 +26,7 @@ const struct command commands[] = {
         .operands = {"FILE", "DEVICE"},
         .files = 1,
         .repeats = 1,
+        .patch = 1,
         .output = MAY_HAVE_OUTPUT,
         .run = pick,
         .summary = "find the image for a device, or for several; with -o, write it",
@@ -36,7 +37,12 @@ const struct command commands[] = {
                 "offset and size, or 9 QUERY or 10 NONE. The last line says how many entries are taken, each counted once. Standard error\n"
                 "says why a device gets no image. -o is for one device: make one pick for each.\n"
                 "The exit status is 0 if every device gets an image, 4 if all their names are written as they must be but some get no\n"
-                "image (NONE), and 1 if the bundle, some device name (QUERY) or the number of devices (RACK) is refused.\n",
+                "image (NONE), and 1 if the bundle, some device name (QUERY) or the number of devices (RACK) is refused.\n"
+                "\n"
+                "With --patch there are two bundles. PATCH answers where it has an entry that fits the device, one with an empty image\n"
+                "too; FILE answers where PATCH has none. Both must be accepted, whichever answers: PATCH is checked first, then FILE.\n"
+                "The answer says patch or main, which is FILE, and the offset and size of the image in that one. There may be any number\n"
+                "of devices, and no line says how many entries are taken.\n",
     },
     {
         .name = "explain",
@@ -75,4 +81,8 @@ const struct command *find_command(const char *name) {
         if (strcmp(name, command->name) == 0 || (command->other_name != NULL && strcmp(name, command->other_name) == 0))
             return command;
     return NULL;
+}
+
+int has_patch(const struct request *request) {
+    return request->patch.path != NULL;
 }

@@ -11,11 +11,18 @@ enum status { ACCEPTED = 0, REFUSED = 1, BAD_USAGE = 2, FILE_FAILURE = 3, NO_IMA
 
 enum { OPERANDS = 2 }; /* the most that a command names */
 
-/* What a command is asked: its operands, those that are files with what they hold, and its options. */
+/* A file that is read, and what it holds. */
+struct input {
+    const char *path;
+    struct bytes bytes;
+};
+
+/* What a command is asked: its operands, those that are files, and its options. */
 struct request {
     char **operands;
     int count; /* of the operands */
-    struct bytes files[OPERANDS];
+    struct input files[OPERANDS];
+    struct input patch;            /* the bundle that is looked in before the file; its path is null where there is none */
     const struct reading *reading; /* how IDs are read */
     const char *output;            /* the path of the output, or null */
     int json;                      /* whether to answer in JSON */
@@ -30,6 +37,7 @@ struct command {
     const char *operands[OPERANDS + 1]; /* what the help calls them; the last is null */
     int files;                          /* how many of them are files, which come first */
     int repeats;                        /* whether the last may stand more than once */
+    int patch;                          /* whether it has the option --patch */
     enum output output;
     enum status (*run)(const struct request *request);
     const char *summary; /* one line */
@@ -44,6 +52,9 @@ int operand_count(const struct command *command);
 
 /* The command of a name, or null. */
 const struct command *find_command(const char *name);
+
+/* Whether there are two bundles to look in. */
+int has_patch(const struct request *request);
 
 enum status check(const struct request *request);
 enum status list(const struct request *request);

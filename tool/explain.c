@@ -127,7 +127,7 @@ static void explain_entries(const struct request *request, struct bytes device) 
     size_t i;
     canonical_form(request->reading, device, &name);
     parts = parts_of(&name);
-    read_entries(request->reading, request->files[0], &entries);
+    read_entries(request->reading, request->files[0].bytes, &entries);
     for (i = 0; i < entries.count; i++) {
         struct parts entry = parts_of(&entries.list[i].id);
         reasons[i] = reason_of(&entry, &parts);
@@ -136,10 +136,10 @@ static void explain_entries(const struct request *request, struct bytes device) 
 }
 
 enum status explain(const struct request *request) {
-    struct bytes bundle = request->files[0], device = text_bytes(request->operands[1]);
+    struct bytes bundle = request->files[0].bytes, device = text_bytes(request->operands[1]);
     struct offload_pick_answer answer = request->reading->pick(bundle.start, bundle.length, device.start, device.length);
     if (answer.number != OFFLOAD_OK && answer.number != OFFLOAD_NONE)
-        return refuse(request, request->operands[1], answer.number, answer.place);
+        return refuse(request, &request->files[0], request->operands[1], answer.number, answer.place);
     explain_entries(request, device);
     return answer.number == OFFLOAD_OK ? ACCEPTED : NO_IMAGE;
 }

@@ -9,7 +9,7 @@ static void find_earlier(const struct request *request, struct finding *finding)
     uint64_t i;
     for (i = 0; i < finding->place && !finding->has_earlier; i++) {
         finding->earlier = i;
-        finding->has_earlier = read_row(request->files[0], i, &finding->earlier_row) &&
+        finding->has_earlier = read_row(finding->file->bytes, i, &finding->earlier_row) &&
                                finding->refusal.concerns(request->reading, finding->earlier_row, finding->row);
     }
 }
@@ -19,7 +19,7 @@ static void find_entry(const struct request *request, uint64_t place, struct fin
     finding->has_place = names == NAMES_ENTRY || names == NAMES_ID || names == NAMES_IMAGE;
     finding->place = place;
     if (names == NAMES_ID || names == NAMES_IMAGE)
-        finding->has_row = read_row(request->files[0], place, &finding->row);
+        finding->has_row = read_row(finding->file->bytes, place, &finding->row);
     if (finding->has_row && finding->refusal.concerns != NULL)
         find_earlier(request, finding);
 }
@@ -39,13 +39,14 @@ static const char *kept_output(const char *output) {
     return output != NULL && strcmp(output, "-") != 0 && access(output, F_OK) == 0 ? output : NULL;
 }
 
-struct finding find_out(const struct request *request, const char *device, uint64_t number, uint64_t place) {
+struct finding find_out(const struct request *request, const struct input *file, const char *device, uint64_t number, uint64_t place) {
     struct finding finding = {0};
     finding.number = number;
-    finding.refusal = refusal_of(request->reading, number);
+    finding.file = file;
+    finding.refusal = refusal_of(request->reading, has_patch(request), number);
     finding.device = finding.refusal.names == NAMES_DEVICE ? device : NULL;
     if (finding.refusal.advice == NULL) {
-        finding.looks = looks_of(request->files[0]);
+        finding.looks = looks_of(file->bytes);
         finding.refusal.advice = finding.looks.advice;
     }
     find_entry(request, place, &finding);

@@ -8,6 +8,7 @@
 
 struct finding {
     uint64_t number;
+    const struct input *file;
     struct refusal refusal;
     struct looks looks;
 
@@ -26,7 +27,7 @@ struct finding {
     const char *kept; /* an output that was there before and is left as it was, or null */
 };
 
-/* What is to be said of a refusal of the file, the first operand, or of a device name, which may be null where no device is refused. */
-struct finding find_out(const struct request *request, const char *device, uint64_t number, uint64_t place);
+/* What is to be said of a refusal of a file of the request, or of a device name, which may be null where no device is refused. */
+struct finding find_out(const struct request *request, const struct input *file, const char *device, uint64_t number, uint64_t place);
 
 #endif

@@ -5,7 +5,7 @@
 #include <stdio.h>
 #include <string.h>
 
-enum { SYNOPSIS = 28, NAME = 16 }; /* widths of columns */
+enum { SYNOPSIS = 43, NAME = 16 }; /* widths of columns */
 
 /* What the operands of commands are. */
 static const struct {
@@ -16,13 +16,15 @@ static const struct {
     {"DEVICE", "a device name, written as an entry ID: hip-amdgcn-amd-amdhsa--gfx906:sramecc+:xnack- (offload help id)"},
 };
 
+static const char patch_help[] = "a bundle that pick looks in before FILE, which is then the main one; - is standard input";
+
 static const char output_help[] = "where the output goes, whole or not at all; - is standard output, and the answer goes to standard error";
 
 static const char statuses[] =
     "\n"
     "Exit status:\n"
     "  0  accepted\n"
-    "  1  refused: the bundle is damaged or breaks a rule, or the device name is not written as one must be\n"
+    "  1  refused: a bundle is damaged or breaks a rule, or the device name is not written as one must be\n"
     "  2  bad usage\n"
     "  3  a file cannot be read or written\n"
     "  4  no image for this device (NONE)\n";
@@ -86,7 +88,7 @@ static int print_synopsis(const struct command *command) {
     int printed = printf("%s", command->name), i;
     for (i = 0; command->operands[i] != NULL; i++)
         printed += printf(" %s", command->operands[i]);
-    return printed + printf("%s%s", command->repeats ? ".." : "", output_words(command));
+    return printed + printf("%s%s%s", command->repeats ? ".." : "", command->patch ? " [--patch PATCH]" : "", output_words(command));
 }
 
 static void print_row(const struct command *command) {
@@ -96,7 +98,9 @@ static void print_row(const struct command *command) {
     printf("%*s  %s\n", SYNOPSIS - printed, "", command->summary);
 }
 
-static void print_options(int output) {
+static void print_options(int patch, int output) {
+    if (patch)
+        print_meaning("--patch PATCH", patch_help);
     if (output)
         print_meaning("-o OUT", output_help);
     print_meaning("--profile " AMDGPU, "read IDs by the profile for AMD's GPUs: unknown processors and features are refused (offload help profile)");
@@ -117,7 +121,7 @@ enum status help_all(void) {
     printf("  offload %-*s  %s\n\n", SYNOPSIS, "--version", "print the version");
     for (i = 0; i < sizeof operands / sizeof *operands; i++)
         print_meaning(operands[i].name, operands[i].meaning);
-    print_options(1);
+    print_options(1, 1);
     return ACCEPTED;
 }
 
@@ -128,7 +132,7 @@ enum status help_command(const struct command *command) {
     printf(" [--profile " AMDGPU "] [--json]\n\n%s\n", command->help);
     for (i = 0; command->operands[i] != NULL; i++)
         print_operand(command->operands[i]);
-    print_options(command->output != NO_OUTPUT);
+    print_options(command->patch, command->output != NO_OUTPUT);
     return ACCEPTED;
 }
 

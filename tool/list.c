@@ -47,11 +47,11 @@ static void put_entries(FILE *out, const struct entries *entries) {
 }
 
 enum status list(const struct request *request) {
-    struct bytes bundle = request->files[0];
+    struct bytes bundle = request->files[0].bytes;
     struct offload_check_answer answer = request->reading->check(bundle.start, bundle.length);
     struct entries entries;
     if (answer.number != OFFLOAD_OK)
-        return refuse(request, NULL, answer.number, answer.place);
+        return refuse(request, &request->files[0], NULL, answer.number, answer.place);
     read_entries(request->reading, bundle, &entries);
     (request->json ? put_entries : print_entries)(request->answer, &entries);
     return ACCEPTED;

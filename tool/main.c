@@ -7,16 +7,23 @@
 #include <errno.h>
 #include <string.h>
 
-/* Reads the files of a request and runs its command. */
+static enum status read_input(const struct request *request, struct input *input) {
+    const char *failure = file_read(input->path, &input->bytes);
+    return failure == NULL ? ACCEPTED : cannot_read(request, input->path, failure);
+}
+
+/* Reads the files of a request, the patch first, and runs its command. */
 static enum status run(const struct command *command, struct request *request) {
+    enum status status = ACCEPTED;
     int i;
     request->answer = request->output != NULL && strcmp(request->output, "-") == 0 ? stderr : stdout;
-    for (i = 0; i < command->files; i++) {
-        const char *failure = file_read(request->operands[i], &request->files[i]);
-        if (failure != NULL)
-            return cannot_read(request, request->operands[i], failure);
+    if (has_patch(request))
+        status = read_input(request, &request->patch);
+    for (i = 0; i < command->files && status == ACCEPTED; i++) {
+        request->files[i].path = request->operands[i];
+        status = read_input(request, &request->files[i]);
     }
-    return command->run(request);
+    return status == ACCEPTED ? command->run(request) : status;
 }
 
 static enum status answer_command(const struct command *command, char **words) {

@@ -16,9 +16,12 @@ static const char *output_name(const char *path) {
     return strcmp(path, "-") == 0 ? "standard output" : path;
 }
 
-/* What is refused: the file, the number with its name, and the entry or the device. */
+/* What is refused: the file, or both where neither has an image, the number with its name, and the entry or the device. */
 static void print_subject(const struct request *request, const struct finding *finding) {
-    fprintf(stderr, "offload: %s: %" PRIu64 " %s", input_name(request->operands[0]), finding->number, offload_name(finding->number));
+    fputs("offload: ", stderr);
+    if (has_patch(request) && finding->number == OFFLOAD_NONE)
+        fprintf(stderr, "%s and ", input_name(request->patch.path));
+    fprintf(stderr, "%s: %" PRIu64 " %s", input_name(finding->file->path), finding->number, offload_name(finding->number));
     if (finding->has_place)
         fprintf(stderr, ", entry %" PRIu64, finding->place);
     if (finding->has_row) {
@@ -27,7 +30,7 @@ static void print_subject(const struct request *request, const struct finding *f
     }
     if (finding->has_row && finding->refusal.names == NAMES_IMAGE)
         fprintf(stderr, " (offset %" PRIu64 ", size %" PRIu64 " in a file of %zu bytes)", finding->row.offset, finding->row.size,
-                request->files[0].length);
+                finding->file->bytes.length);
     if (finding->device != NULL) {
         fputs(", device ", stderr);
         print_quoted(stderr, text_bytes(finding->device));
@@ -77,8 +80,10 @@ static void put_row(struct json *object, const struct finding *finding) {
     }
 }
 
-static void put_finding(struct json *object, const struct finding *finding) {
+static void put_finding(struct json *object, const struct request *request, const struct finding *finding) {
     put_number(object, finding->number);
+    if (has_patch(request) && finding->refusal.names != NAMES_DEVICE)
+        put_bundle(object, request, finding->file);
     if (finding->has_place)
         json_number(object, "place", finding->place);
     if (finding->has_row)
@@ -95,12 +100,12 @@ static void put_finding(struct json *object, const struct finding *finding) {
         json_text(object, "kept", finding->kept);
 }
 
-enum status refuse(const struct request *request, const char *device, uint64_t number, uint64_t place) {
-    struct finding finding = find_out(request, device, number, place);
+enum status refuse(const struct request *request, const struct input *file, const char *device, uint64_t number, uint64_t place) {
+    struct finding finding = find_out(request, file, device, number, place);
     struct json object;
     if (request->json) {
         object = open_object(request);
-        put_finding(&object, &finding);
+        put_finding(&object, request, &finding);
         json_close(&object);
     } else {
         print_finding(request, &finding);
@@ -109,8 +114,8 @@ enum status refuse(const struct request *request, const char *device, uint64_t n
 }
 
 void put_refusal(struct json *object, const struct request *request, const char *device, uint64_t number) {
-    struct finding finding = find_out(request, device, number, 0);
-    put_finding(object, &finding);
+    struct finding finding = find_out(request, &request->files[0], device, number, 0);
+    put_finding(object, request, &finding);
 }
 
 static enum status fail(const struct request *request, const char *what, const char *path, const char *name, const char *why) {

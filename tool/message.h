@@ -5,8 +5,8 @@
 #include "commands.h"
 #include "json.h"
 
-/* Tells a refusal of the file, the first operand, or of a device name, which may be null where no device is refused. */
-enum status refuse(const struct request *request, const char *device, uint64_t number, uint64_t place);
+/* Tells a refusal of a file of the request, or of a device name, which may be null where no device is refused. */
+enum status refuse(const struct request *request, const struct input *file, const char *device, uint64_t number, uint64_t place);
 
 /* Puts the refusal of a device name into an object. */
 void put_refusal(struct json *object, const struct request *request, const char *device, uint64_t number);

@@ -28,6 +28,26 @@ static struct offload_pick_each_answer amdgpu_pick_each(const uint8_t *bundle, s
     return answer;
 }
 
-const struct reading general_reading = {NULL, offload_check, offload_pick, offload_pick_each, offload_normalise};
+int refuses_bundle(uint64_t number) {
+    return number != OFFLOAD_OK && number != OFFLOAD_QUERY && number != OFFLOAD_NONE;
+}
 
-const struct reading amdgpu_reading = {AMDGPU, offload_amdgpu_check, offload_amdgpu_pick, amdgpu_pick_each, offload_amdgpu_normalise};
+/* What offload_lookup does, by the profile, for which the library has no such call. The answer is that of one of two picks: of the main bundle where it
+ * is refused and the patch is not, or where the patch has no image. */
+static struct offload_lookup_answer amdgpu_lookup(const uint8_t *patch, size_t patch_length, const uint8_t *main_bundle, size_t main_length,
+                                                  const uint8_t *device, size_t device_length) {
+    struct offload_pick_answer first = offload_amdgpu_pick(patch, patch_length, device, device_length);
+    struct offload_pick_answer second = offload_amdgpu_pick(main_bundle, main_length, device, device_length);
+    int in_main = first.number == OFFLOAD_NONE || (!refuses_bundle(first.number) && refuses_bundle(second.number));
+    struct offload_pick_answer pick = in_main ? second : first;
+    struct offload_lookup_answer answer = {pick.number, pick.place, 0, pick.position, pick.size, NULL};
+    if (pick.number == OFFLOAD_OK || refuses_bundle(pick.number))
+        answer.bundle = in_main ? OFFLOAD_MAIN : OFFLOAD_PATCH;
+    if (pick.number == OFFLOAD_OK)
+        answer.image = (in_main ? main_bundle : patch) + pick.position;
+    return answer;
+}
+
+const struct reading general_reading = {NULL, offload_check, offload_pick, offload_pick_each, offload_lookup, offload_normalise};
+
+const struct reading amdgpu_reading = {AMDGPU, offload_amdgpu_check, offload_amdgpu_pick, amdgpu_pick_each, amdgpu_lookup, offload_amdgpu_normalise};

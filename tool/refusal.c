@@ -37,6 +37,13 @@ static int shares_bytes(const struct reading *reading, struct row earlier, struc
     return earlier.size > 0 && row.size > 0 && !same_span && !apart;
 }
 
+/* What a device asks of an entry, and which command says more. */
+#define EQUAL "equal, and every feature that the entry states must be stated by the device with the same sign."
+#define FITTING "kind (hip and hipv4 are one), triple and processor must be " EQUAL
+#define PROFILE_FITTING "kind (hip and hipv4 are one), triple and processor (an alternative name means its primary) must be " EQUAL
+#define EXPLAINS "offload explain FILE DEVICE says for each entry why it does not fit"
+#define PROFILE_EXPLAINS "offload explain FILE DEVICE --profile " AMDGPU " says for each entry why it does not fit"
+
 static const char again[] = "The file is cut short or damaged: copy it or make it again.";
 
 static const struct refusal refusals[] = {
@@ -57,10 +64,7 @@ static const struct refusal refusals[] = {
     [OFFLOAD_RACK] = {NAMES_FILE, "There are more than 16 devices.", "At most 16 devices in one call: give the others in another.", NULL},
     [OFFLOAD_QUERY] = {NAMES_DEVICE, "The device name is not written as an entry ID must be.",
                        "Write it like hip-amdgcn-amd-amdhsa--gfx906:sramecc+:xnack- (offload help id).", NULL},
-    [OFFLOAD_NONE] = {NAMES_DEVICE,
-                      "No entry fits this device: kind (hip and hipv4 are one), triple and processor must be equal, and every feature that the entry "
-                      "states must be stated by the device with the same sign.",
-                      "offload explain FILE DEVICE says for each entry why it does not fit.", NULL},
+    [OFFLOAD_NONE] = {NAMES_DEVICE, "No entry fits this device: " FITTING, EXPLAINS ".", NULL},
     [OFFLOAD_BIG] = {NAMES_FILE, "The normal form would be longer than 1073741824 bytes.",
                      "A normal form holds an image for each entry, also where entries share one: use the bundle as it is.", NULL},
 };
@@ -74,11 +78,16 @@ static const struct refusal profile_refusals[] = {
                        "An earlier entry of the same kind (hip and hipv4 are one), triple and processor (an alternative name means its primary) "
                        "states other feature names.",
                        "Make the bundle again so that all entries of a processor state the same features.", other_names},
-    [OFFLOAD_NONE] = {NAMES_DEVICE,
-                      "No entry fits this device: kind (hip and hipv4 are one), triple and processor (an alternative name means its primary) must be "
-                      "equal, and every feature that the entry states must be stated by the device with the same sign.",
-                      "offload explain FILE DEVICE --profile " AMDGPU " says for each entry why it does not fit.", NULL},
+    [OFFLOAD_NONE] = {NAMES_DEVICE, "No entry fits this device: " PROFILE_FITTING, PROFILE_EXPLAINS ".", NULL},
 };
+
+/* NONE of a patch and the main bundle, in general and by the profile. */
+#define NEITHER "Neither bundle has an entry that fits this device: "
+#define ABOUT_BOTH ": ask it about both files."
+
+static const struct refusal neither = {NAMES_DEVICE, NEITHER FITTING, EXPLAINS ABOUT_BOTH, NULL};
+
+static const struct refusal profile_neither = {NAMES_DEVICE, NEITHER PROFILE_FITTING, PROFILE_EXPLAINS ABOUT_BOTH, NULL};
 
 static const struct refusal entry_faults[] = {
     [UNKNOWN_PROCESSOR] = {NAMES_ID, "The profile " AMDGPU " does not know the processor of the entry.",
@@ -108,9 +117,11 @@ static struct refusal look_up(const struct refusal *table, size_t length, uint64
     return number < length && table[number].sentence != NULL ? table[number] : otherwise;
 }
 
-struct refusal refusal_of(const struct reading *reading, uint64_t number) {
+struct refusal refusal_of(const struct reading *reading, int patched, uint64_t number) {
     static const struct refusal unknown = {NAMES_FILE, "This tool does not know the number.", "Build the tool with the library that it calls.", NULL};
     struct refusal refusal = look_up(refusals, sizeof refusals / sizeof *refusals, number, unknown);
+    if (patched && number == OFFLOAD_NONE)
+        return reading->profile == NULL ? neither : profile_neither;
     if (reading->profile == NULL)
         return refusal;
     return look_up(profile_refusals, sizeof profile_refusals / sizeof *profile_refusals, number, refusal);

@@ -17,7 +17,8 @@ struct refusal {
     int (*concerns)(const struct reading *reading, struct row earlier, struct row row);
 };
 
-struct refusal refusal_of(const struct reading *reading, uint64_t number);
+/* What a number means, where one bundle is asked or a patch before it. */
+struct refusal refusal_of(const struct reading *reading, int patched, uint64_t number);
 
 /* What a fault of an entry's ID, or of a device name, means. */
 struct refusal fault_refusal(enum names names, enum fault_kind kind);

@@ -21,11 +21,11 @@ static enum wish wrong(const struct command *command, const char *what, const ch
     return WISH_WRONG;
 }
 
-/* The profile that an option names: in the same word, behind =, or in the next one, to which it moves. Null where the option is another one, empty
- * where the name is missing. */
-static const char *profile_name(char ***words) {
-    static const char option[] = "--profile";
-    const char *rest = strncmp(**words, option, sizeof option - 1) == 0 ? **words + sizeof option - 1 : NULL;
+/* The value of an option: in the same word, behind =, or the next word, to which it moves. Null where the words begin with another option, empty where
+ * the value is missing. */
+static const char *value_of(const char *option, char ***words) {
+    size_t length = strlen(option);
+    const char *rest = strncmp(**words, option, length) == 0 ? **words + length : NULL;
     if (rest == NULL || (*rest != '=' && *rest != 0))
         return NULL;
     if (*rest == '=')
@@ -44,19 +44,33 @@ static enum wish take_profile(const struct command *command, const char *name, s
     return WISH_RUN;
 }
 
+static enum wish take_patch(const struct command *command, const char *path, struct request *request) {
+    if (!command->patch)
+        return wrong(command, "only pick has the option", "--patch");
+    if (*path == 0)
+        return wrong(command, "no file name after", "--patch");
+    if (has_patch(request))
+        return wrong(command, "a second", "--patch");
+    request->patch.path = path;
+    return WISH_RUN;
+}
+
 /* Takes the option that the words begin with, and moves to its last word. */
 static enum wish read_option(const struct command *command, char ***words, struct request *request) {
     char *option = **words;
-    const char *profile;
+    const char *value;
     if (is_help(option))
         return WISH_HELP;
     if (strcmp(option, "--json") == 0) {
         request->json = 1;
         return WISH_RUN;
     }
-    profile = profile_name(words);
-    if (profile != NULL)
-        return take_profile(command, profile, request);
+    value = value_of("--profile", words);
+    if (value != NULL)
+        return take_profile(command, value, request);
+    value = value_of("--patch", words);
+    if (value != NULL)
+        return take_patch(command, value, request);
     if (strcmp(option, "-o") != 0 || command->output == NO_OUTPUT)
         return wrong(command, "unknown option", option);
     if (request->output != NULL)
@@ -73,6 +87,11 @@ static enum wish take_operand(const struct command *command, char *word, struct 
     return WISH_RUN;
 }
 
+/* Standard input can be read once. */
+static int reads_input_twice(const struct request *request) {
+    return has_patch(request) && strcmp(request->patch.path, "-") == 0 && strcmp(request->operands[0], "-") == 0;
+}
+
 /* What shows when every word is read. */
 static enum wish look_over(const struct command *command, const struct request *request) {
     int wanted = operand_count(command);
@@ -82,6 +101,8 @@ static enum wish look_over(const struct command *command, const struct request *
         return wrong(command, "missing", "-o OUT");
     if (request->count > wanted && request->output != NULL)
         return wrong(command, "-o writes one image, and there are several devices: make one pick for each", "");
+    if (reads_input_twice(request))
+        return wrong(command, "PATCH and FILE cannot both be standard input", "");
     return WISH_RUN;
 }
 

@@ -36,6 +36,15 @@ struct CPickedEach {
 }
 
 #[repr(C)]
+struct CLookedUp {
+    number: u64,
+    place: u64,
+    bundle: u64,
+    position: u64,
+    size: u64,
+}
+
+#[repr(C)]
 struct CLocated {
     number: u64,
     place: u64,
@@ -65,6 +74,14 @@ extern "C" {
         slots: *mut [u64; 4],
         room: usize,
     ) -> CPickedEach;
+    fn baseline_lookup(
+        patch: *const u8,
+        patch_length: usize,
+        main: *const u8,
+        main_length: usize,
+        device: *const u8,
+        device_length: usize,
+    ) -> CLookedUp;
     fn baseline_entry(bundle: *const u8, length: usize, index: u64) -> CLocated;
     fn baseline_normalise(bundle: *const u8, length: usize, out: *mut u8, room: usize) -> CWritten;
     fn baseline_amdgpu_check(bundle: *const u8, length: usize) -> CChecked;
@@ -116,6 +133,16 @@ pub fn pick_each(bundle: &[u8], buffer: &[u8], names: &[[u64; 2]], slots: &mut [
         )
     };
     picked.word
+}
+
+/// Number, place, bundle, position and size.
+pub fn lookup(patch: &[u8], main: &[u8], device: &[u8]) -> [u64; 5] {
+    // SAFETY: the slices are as long as they say.
+    let looked_up = unsafe {
+        baseline_lookup(patch.as_ptr(), patch.len(), main.as_ptr(), main.len(), device.as_ptr(), device.len())
+    };
+    let CLookedUp { number, place, bundle, position, size } = looked_up;
+    [number, place, bundle, position, size]
 }
 
 pub fn entry(bundle: &[u8], index: u64) -> Located {

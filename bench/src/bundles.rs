@@ -1,12 +1,11 @@
 //! Check, pick, entry and normalise over bundles of 1 to 64 entries, and normalise over images of many sizes.
 
 use crate::clock::{black_box, job, time, Timed, Whose};
+use crate::sample::{self, IMAGE};
 use crate::table::{self, bytes, digits, Table};
-use crate::{baseline, library, sample};
+use crate::{baseline, library};
 use second::model::bundle as model;
 use std::cell::RefCell;
-
-const IMAGE: usize = 2048;
 
 /// Library, second program, plain C.
 fn check(bundle: &[u8]) -> Vec<Timed> {

@@ -1,12 +1,11 @@
 //! Picks for several names in one call, beside as many picks for one.
 
 use crate::clock::{black_box, job, time, Timed, Whose};
+use crate::sample::{self, IMAGE};
 use crate::table::{self, digits, Table};
-use crate::{baseline, library, sample};
+use crate::{baseline, library};
 use second::model::bundle as model;
 use std::cell::RefCell;
-
-const IMAGE: usize = 2048;
 
 /// One call for 16 names on 64 entries takes at most this many times as long as a single pick and the names made canonical,
 const OF_PARTS: f64 = 1.5;

@@ -3,6 +3,7 @@
 extern "C" {
     fn offload_check_number(bundle: *const u8, bundle_length: usize) -> u64;
     fn offload_pick_number(bundle: *const u8, bundle_length: usize, device: *const u8, device_length: usize) -> u64;
+    fn offload_pick_size(bundle: *const u8, bundle_length: usize, device: *const u8, device_length: usize) -> u64;
     fn offload_pick_each_word(
         bundle: *const u8,
         bundle_length: usize,
@@ -29,6 +30,26 @@ extern "C" {
     fn offload_binaries_next_size(binaries: *const u8, length: usize, position: usize, taken: usize) -> u64;
 }
 
+/// The patch, the main bundle and the device name.
+macro_rules! lookup_numbers {
+    ($($name:ident)*) => {
+        extern "C" {
+            $(fn $name(
+                patch: *const u8,
+                patch_length: usize,
+                main: *const u8,
+                main_length: usize,
+                device: *const u8,
+                device_length: usize,
+            ) -> u64;)*
+        }
+    };
+}
+
+lookup_numbers! {
+    offload_lookup_number offload_lookup_place offload_lookup_bundle offload_lookup_position offload_lookup_size
+}
+
 pub fn check(bundle: &[u8]) -> u64 {
     // SAFETY: the slice is as long as it says.
     unsafe { offload_check_number(bundle.as_ptr(), bundle.len()) }
@@ -37,6 +58,12 @@ pub fn check(bundle: &[u8]) -> u64 {
 pub fn pick(bundle: &[u8], device: &[u8]) -> u64 {
     // SAFETY: the slices are as long as they say.
     unsafe { offload_pick_number(bundle.as_ptr(), bundle.len(), device.as_ptr(), device.len()) }
+}
+
+/// The size of the image, as `lookup_size` gives it.
+pub fn pick_size(bundle: &[u8], device: &[u8]) -> u64 {
+    // SAFETY: the slices are as long as they say.
+    unsafe { offload_pick_size(bundle.as_ptr(), bundle.len(), device.as_ptr(), device.len()) }
 }
 
 /// Each name is a part of the buffer: start and length. A slot has number, index, position and size.
@@ -54,6 +81,29 @@ pub fn pick_each(bundle: &[u8], buffer: &[u8], names: &[[u64; 2]], slots: &mut [
             slots.len(),
         )
     }
+}
+
+type LookupNumber = unsafe extern "C" fn(*const u8, usize, *const u8, usize, *const u8, usize) -> u64;
+
+fn lookup_number(call: LookupNumber, patch: &[u8], main: &[u8], device: &[u8]) -> u64 {
+    // SAFETY: the slices are as long as they say.
+    unsafe { call(patch.as_ptr(), patch.len(), main.as_ptr(), main.len(), device.as_ptr(), device.len()) }
+}
+
+pub fn lookup_size(patch: &[u8], main: &[u8], device: &[u8]) -> u64 {
+    lookup_number(offload_lookup_size, patch, main, device)
+}
+
+/// Number, place, bundle, position and size, each by its own call: to compare, not to time.
+pub fn lookup(patch: &[u8], main: &[u8], device: &[u8]) -> [u64; 5] {
+    let calls: [LookupNumber; 5] = [
+        offload_lookup_number,
+        offload_lookup_place,
+        offload_lookup_bundle,
+        offload_lookup_position,
+        offload_lookup_size,
+    ];
+    calls.map(|call| lookup_number(call, patch, main, device))
 }
 
 pub fn entry(bundle: &[u8], index: usize) -> u64 {

@@ -1,11 +1,9 @@
 //! The tool against LLVM's bundler, as a person runs them: a process for each job.
 
 use crate::clock::{job, time, Timed, Whose};
-use crate::sample;
+use crate::sample::{self, IMAGE};
 use crate::table::{self, digits, Table};
 use std::process::{Command, Stdio};
-
-const IMAGE: usize = 2048;
 
 /// A program and the words it is given.
 struct Call<'a> {

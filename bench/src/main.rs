@@ -1,5 +1,6 @@
 //! Times the library: `bench TOOL FOLDER`, with the tool to run and a folder for files, or a part alone: `bench order`, the order of two IDs,
-//! `bench profile`, the profile for AMD's GPUs, or `bench each`, picks for several names. Prints tables for docs/BENCHMARKS.md.
+//! `bench profile`, the profile for AMD's GPUs, `bench each`, picks for several names, or `bench lookup`, a patch before the main bundle. Prints
+//! tables for docs/BENCHMARKS.md.
 
 mod baseline;
 mod baseline_binaries;
@@ -9,6 +10,7 @@ mod clock;
 mod each;
 mod library;
 mod llvm;
+mod lookup;
 mod order;
 mod profile;
 mod sample;
@@ -22,9 +24,10 @@ fn main() {
         ["order"] => order::ids(),
         ["profile"] => profile::jobs(),
         ["each"] => each::jobs(),
+        ["lookup"] => lookup::jobs(),
         [tool, work] => all(tool, work),
         _ => {
-            eprintln!("bench TOOL FOLDER, bench order, bench profile, or bench each");
+            eprintln!("bench TOOL FOLDER, bench order, bench profile, bench each, or bench lookup");
             exit(2)
         }
     }
@@ -37,6 +40,7 @@ fn all(tool: &str, work: &str) {
     bundles::jobs();
     bundles::growth();
     each::jobs();
+    lookup::jobs();
     profile::jobs();
     order::ids();
     bundles::copying();

@@ -1,12 +1,11 @@
 //! The profile for AMD's GPUs beside the general reading, on the same bundles.
 
 use crate::clock::{black_box, job, time, Timed, Whose};
+use crate::sample::{self, IMAGE};
 use crate::table::{self, digits, Table};
-use crate::{baseline, library, sample};
+use crate::{baseline, library};
 use second::model::{ID, OK};
 use std::cell::RefCell;
-
-const IMAGE: usize = 2048;
 
 /// A check of 64 entries by the profile takes at most this many times as long as the general one.
 const LIMIT: f64 = 2.5;

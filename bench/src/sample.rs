@@ -2,8 +2,11 @@
 
 use second::model::bundle::{check, packed};
 use second::model::id::{canonical, meaning};
-use second::model::{integer, OK};
+use second::model::{integer, MIXED, OK};
 use second::samples::BINARIES;
+
+/// The size of an image where nothing hangs on it.
+pub const IMAGE: usize = 2048;
 
 const KINDS: [&str; 3] = ["hip", "hipv4", "openmp"];
 const PROCESSORS: [&str; 21] = [
@@ -143,10 +146,26 @@ pub fn three_kinds(image: usize) -> Vec<u8> {
     accepted((0..THREE_KINDS).map(three_kinds_id), image)
 }
 
+/// A bundle of so many entries, of which this is the last.
+pub fn ending_with(last: usize, entries: usize, image: usize) -> Vec<u8> {
+    accepted((last + 1 - entries..=last).map(id), image)
+}
+
+/// The same, but the last entry states no feature, while those before it of the same processor do: MIXED, which is tried last.
+pub fn mixed_at(last: usize, entries: usize, image: usize) -> Vec<u8> {
+    let bare = id(last).replace(features(last), "");
+    answered(MIXED, (last + 1 - entries..last).map(id).chain([bare]), image)
+}
+
 fn accepted(ids: impl Iterator<Item = String>, image: usize) -> Vec<u8> {
+    answered(OK, ids, image)
+}
+
+/// A bundle that a check answers with this number.
+fn answered(number: u64, ids: impl Iterator<Item = String>, image: usize) -> Vec<u8> {
     let image: Vec<u8> = (0..image).map(|k| (k * 37 % 251) as u8).collect();
     let bundle = packed(&ids.map(|id| (id.into_bytes(), image.as_slice())).collect::<Vec<_>>());
-    assert_eq!(check(&bundle).number, OK);
+    assert_eq!(check(&bundle).number, number);
     bundle
 }
 

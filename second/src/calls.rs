@@ -6,7 +6,8 @@ use crate::model::bundle::{check_of, entries, normalise_of, pick_of, Checked, Lo
 use crate::model::bundle_writer::Record;
 use crate::model::each::{Part, PickedEach, Slot};
 use crate::model::id::Reading::Profile;
-use crate::model::{binaries, binary_writer, bundle, bundle_writer, each, Written};
+use crate::model::lookup::LookedUp;
+use crate::model::{binaries, binary_writer, bundle, bundle_writer, each, lookup, Written};
 
 /// A C call that writes returns one number of what it has to return. So it is called once for each, and writes each time.
 #[derive(Clone, Copy, Debug, PartialEq, Eq)]
@@ -85,6 +86,17 @@ pub struct EachCalls {
     pub pick: Pick,
 }
 
+/// The patch, the main bundle and a device name.
+pub type LookUp = fn(&[u8], &[u8], &[u8]) -> LookedUp;
+
+/// A lookup in two bundles, and the check and the pick of one that it goes by.
+#[derive(Clone, Copy)]
+pub struct LookupCalls {
+    pub lookup: LookUp,
+    pub check: Check,
+    pub pick: Pick,
+}
+
 pub type BundleWriter = fn(&[Record], &[u8], &[u8], &mut [u8], Field) -> u64;
 pub type BinaryReader = fn(&[u8], Cursor) -> (Binary, Cursor);
 pub type BinaryWriter = fn(&Content, &[u8], &[u8], &mut [u8], Field) -> u64;
@@ -103,6 +115,11 @@ pub const MODEL_PROFILE: ReadingCalls = ReadingCalls {
 };
 pub const MODEL_EACH: EachCalls = EachCalls {
     each: |bundle, buffer, names, slots, field| field.of(each::pick_each(bundle, buffer, names, slots)),
+    pick: bundle::pick,
+};
+pub const MODEL_LOOKUP: LookupCalls = LookupCalls {
+    lookup: |patch, main, device| lookup::lookup(patch, main, device).0,
+    check: bundle::check,
     pick: bundle::pick,
 };
 pub const MODEL_BUNDLE_WRITER: BundleWriter =

@@ -3,6 +3,7 @@
 pub mod binaries;
 pub mod bundles;
 pub mod each;
+pub mod lookup;
 #[cfg(test)]
 mod tests;
 pub mod writers;
@@ -108,10 +109,10 @@ impl Report {
         }
     }
 
-    /// The same where a case goes through several calls, each of which gave its number.
+    /// The same where a case goes through several calls, each of which gave its number, if it gave one.
     pub fn aimed_at_one(&mut self, aim: usize, numbers: &[(&str, u64)]) {
         let own = numbers.iter().find(|(call, _)| *call == self.aims[aim].call);
-        self.aimed(aim, own.expect("a call").1);
+        self.aimed(aim, own.map_or(u64::MAX, |(_, number)| *number));
     }
 
     /// Numbers that never came, lines that were never met, and counts of entries that were never accepted.
@@ -144,6 +145,29 @@ pub fn apply_aims<D>(aims: &[Aim<D>], draft: &mut D, random: &mut Random) -> Opt
         return None;
     }
     Some(aim)
+}
+
+/// The case of a draft that is aimed at a line, with the aim's index; now and then a real file. Where it is a real file, is aimed at two lines
+/// or is shaken, it counts for no aim.
+pub fn some_case<D, C>(
+    aims: &[Aim<D>],
+    random: &mut Random,
+    sample: impl Fn(&mut Random) -> C,
+    draft: impl Fn(&mut Random) -> D,
+    case: impl Fn(&D) -> C,
+    shake: impl Fn(&mut C, &mut Random),
+) -> (C, Option<usize>) {
+    if random.one_in(50) {
+        return (sample(random), None);
+    }
+    let mut draft = draft(random);
+    let aim = apply_aims(aims, &mut draft, random);
+    let mut case = case(&draft);
+    if random.one_in(12) {
+        shake(&mut case, random);
+        return (case, None);
+    }
+    (case, aim)
 }
 
 /// How often each line is aimed at in families that run `each_aim`.

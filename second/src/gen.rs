@@ -7,6 +7,7 @@ pub mod each;
 pub mod examples;
 pub mod ids;
 pub mod images;
+pub mod lookup;
 pub mod pairs;
 pub mod random;
 pub mod records;

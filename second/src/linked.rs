@@ -1,12 +1,13 @@
 //! The library's calls: those of include/offload.h, and those of crate `harness`, which has the reader and the two writers. A slice is a
 //! pointer and a length.
 
-use second::calls::{BundleCalls, EachCalls, EachField, Field, ReadingCalls};
+use second::calls::{BundleCalls, EachCalls, EachField, Field, LookupCalls, ReadingCalls};
 use second::model::binaries::{Binary, Cursor, Pair};
 use second::model::binary_writer::Content;
 use second::model::bundle::{Checked, Located, Picked};
 use second::model::bundle_writer::Record;
 use second::model::each::{Part, Slot};
+use second::model::lookup::LookedUp;
 
 #[link(name = "offload", kind = "static")]
 extern "C" {
@@ -40,28 +41,41 @@ extern "C" {
     fn offload_amdgpu_normalise_length(bundle: *const u8, length: usize, out: *mut u8, room: usize) -> u64;
 }
 
-/// The bundle, the buffer, the names and the slots.
-macro_rules! each_numbers {
-    ($($name:ident)*) => {
+/// Calls that are given the same, one for each number that is returned.
+macro_rules! numbers {
+    ($given:tt: $($name:ident)*) => {
         #[link(name = "offload", kind = "static")]
         extern "C" {
-            $(fn $name(
-                bundle: *const u8,
-                length: usize,
-                buffer: *const u8,
-                buffer_length: usize,
-                names: *const Part,
-                name_count: usize,
-                slots: *mut Slot,
-                slot_count: usize,
-            ) -> u64;)*
+            $(fn $name $given -> u64;)*
         }
     };
 }
 
-each_numbers! {
+numbers! {
+    (
+        bundle: *const u8,
+        length: usize,
+        buffer: *const u8,
+        buffer_length: usize,
+        names: *const Part,
+        name_count: usize,
+        slots: *mut Slot,
+        slot_count: usize,
+    ):
     offload_pick_each_number offload_pick_each_place offload_pick_each_slots offload_pick_each_word
     offload_pick_each_taken
+}
+
+numbers! {
+    (
+        patch: *const u8,
+        patch_length: usize,
+        main: *const u8,
+        main_length: usize,
+        device: *const u8,
+        device_length: usize,
+    ):
+    offload_lookup_number offload_lookup_place offload_lookup_bundle offload_lookup_position offload_lookup_size
 }
 
 #[link(name = "harness", kind = "static")]
@@ -121,6 +135,7 @@ struct StringPair {
 type CheckNumber = unsafe extern "C" fn(*const u8, usize) -> u64;
 type PickNumber = unsafe extern "C" fn(*const u8, usize, *const u8, usize) -> u64;
 type NormaliseNumber = unsafe extern "C" fn(*const u8, usize, *mut u8, usize) -> u64;
+type LookupNumber = unsafe extern "C" fn(*const u8, usize, *const u8, usize, *const u8, usize) -> u64;
 
 /// The C calls of one reading, one for each number that is returned.
 struct Numbers {
@@ -162,6 +177,11 @@ pub const PROFILE: ReadingCalls = ReadingCalls {
 
 pub const EACH: EachCalls = EachCalls { each: pick_each, pick: BUNDLES.pick };
 
+pub const LOOKUP: LookupCalls = LookupCalls { lookup, check: BUNDLES.check, pick: BUNDLES.pick };
+
+const LOOKUP_NUMBERS: [LookupNumber; 5] =
+    [offload_lookup_number, offload_lookup_place, offload_lookup_bundle, offload_lookup_position, offload_lookup_size];
+
 fn check(calls: &Numbers, bundle: &[u8]) -> Checked {
     // SAFETY: the slice is as long as it says.
     let [number, place, count] = calls.check.map(|call| unsafe { call(bundle.as_ptr(), bundle.len()) });
@@ -196,6 +216,15 @@ fn pick_each(bundle: &[u8], buffer: &[u8], names: &[Part], slots: &mut [Slot], f
             slots.len(),
         )
     }
+}
+
+fn lookup(patch: &[u8], main: &[u8], device: &[u8]) -> LookedUp {
+    // SAFETY: the slices are as long as they say.
+    let number = |call: LookupNumber| unsafe {
+        call(patch.as_ptr(), patch.len(), main.as_ptr(), main.len(), device.as_ptr(), device.len())
+    };
+    let [number, place, bundle, position, size] = LOOKUP_NUMBERS.map(number);
+    LookedUp { number, place, bundle, position, size }
 }
 
 fn entry(bundle: &[u8], index: u64) -> Located {

@@ -9,6 +9,7 @@ mod linked;
 use second::families::binaries::Binaries;
 use second::families::bundles::Bundles;
 use second::families::each::Each;
+use second::families::lookup::Lookup;
 use second::families::writers::Writers;
 use second::families::{Difference, Family, Report};
 use second::gen::random::Random;
@@ -52,6 +53,7 @@ fn families() -> Vec<Box<dyn Family>> {
         Box::new(Writers::<binary_contents::Case>::new(linked::write_binary)),
         Box::new(Bundles::profile(linked::PROFILE)),
         Box::new(Each::new(linked::EACH)),
+        Box::new(Lookup::new(linked::LOOKUP)),
     ]
 }
 

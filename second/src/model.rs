@@ -9,6 +9,7 @@ pub mod each;
 #[cfg(test)]
 mod examples;
 pub mod id;
+pub mod lookup;
 pub mod processors;
 #[cfg(test)]
 mod properties;

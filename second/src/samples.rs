@@ -167,6 +167,11 @@ pub const BUNDLES: &[BundleSample] = &[
 pub const REFUSED: &[RefusedSample] =
     &[RefusedSample { name: "overlap", bytes: sample!("refused/overlap.bundle"), number: OVERLAP, place: 1 }];
 
+/// Every bundle, accepted or refused.
+pub fn all_bundles() -> impl Iterator<Item = &'static [u8]> {
+    BUNDLES.iter().map(|sample| sample.bytes).chain(REFUSED.iter().map(|sample| sample.bytes))
+}
+
 /// Device names that some samples answer with an image and others with NONE, and some that break the rules.
 pub const DEVICES: &[&str] = &[
     "host-x86_64-unknown-linux-gnu",

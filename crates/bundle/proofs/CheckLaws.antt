@@ -10,12 +10,12 @@ use mathlib.Core.List.{List}
 use borrow.Author.Tests.{ltb-false, leb-true, le-ltb, le-leb}
 use Rattle.wire.specs.Limit.{limit}
 use Rattle.wire.specs.Bytes.{same}
-use Rattle.wire.specs.Stop.{Stop, _⨾_, stopWhen, stopIf, stopAt}
+use Rattle.wire.specs.Stop.{Stop, go, _⨾_, stopWhen, stopIf, stopAt}
 use Rattle.wire.proofs.Bools.{byBool, and-both, both-and, or-neither, neither-or, not-no, yes-not}
 use Rattle.wire.proofs.StopLaws.{⨾-next, ⨾-stop}
 use Rattle.entry_id.specs.IdRules.{IdRules}
 use Rattle.bundle.specs.Table.{magic, count}
-use Rattle.bundle.specs.Check.{badRow, outside, overlapStop, unrefused, headStop, tableStop, rowsStop, bundleStop}
+use Rattle.bundle.specs.Check.{badRow, outside, overlapStop, unrefused, refusedOf, headStop, tableStop, rowsStop, bundleStop}
 use Rattle.bundle.specs.Accepted.{RowFits, Inside}
 
 pub unrefused-go : (t : Stop) (v : ℕ) → t .number ≡ 0 → unrefused t v ≡ v
@@ -25,6 +25,20 @@ unrefused-go t v e = rw (e, unrefused)
 pub unrefused-stop : (t : Stop) (v k : ℕ) → t .number ≡ suc k → unrefused t v ≡ 0
 unfolding unrefused
 unrefused-stop t v k e = rw (e, unrefused)
+
+-- ---- which of two bundles is refused
+
+pub first-refused : (a b : Stop) (v k : ℕ) → a .number ≡ suc k → refusedOf a b v ≡ 1
+unfolding refusedOf
+first-refused a b v k e = rw (e, refusedOf)
+
+pub second-refused : (a b : Stop) (v k : ℕ) → a .number ≡ 0 → b .number ≡ suc k → refusedOf a b v ≡ 2
+unfolding refusedOf
+second-refused a b v k e f = rw (e, f, refusedOf)
+
+pub none-refused : (v : ℕ) → refusedOf go go v ≡ v
+unfolding refusedOf
+none-refused v = refl
 
 -- ---- the numbers of a chain
 

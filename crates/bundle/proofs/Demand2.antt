@@ -19,6 +19,7 @@ use Rattle.bundle.proofs.OverlapLaws.{overlap-exact, images-apart}
 use Rattle.bundle.proofs.PlaceLaws.{place-exact}
 use Rattle.bundle.proofs.Theorems.{check-exact, pick-exact, framed-exact, table-decides}
 use Rattle.bundle.proofs.EachLaws.{each-exact}
+use Rattle.bundle.proofs.LookupLaws.{lookup-exact}
 use Rattle.bundle.proofs.EntryAtLaws.{entry-exact}
 use Rattle.bundle.proofs.WriterLaws.{writes-read}
 
@@ -60,6 +61,7 @@ nothing-broken = idRules-reads .broken []
 pub generalCalls : GeneralCalls
 generalCalls = record {
   each = λ s buffer names slots. each-exact idRules s buffer names slots nothing-broken;
+  lookup = λ patch main device. lookup-exact idRules patch main device idRules-lawful;
   entry = λ s i. entry-exact idRules s i;
   written = writes-read idRules idRules-lawful;
 }

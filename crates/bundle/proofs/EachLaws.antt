@@ -18,7 +18,7 @@ use Rattle.wire.specs.Stop.{Stop, go, stop, _⨾_, stopIf, stopWhen}
 use Rattle.wire.proofs.Bools.{and-both, both-and, eqb-sym}
 use Rattle.wire.proofs.BitLaws.{bits-exact, ones-bits, count-same, count-distinct}
 use Rattle.wire.proofs.FirstLaws.{first-at, any-some, any-suc}
-use Rattle.wire.proofs.StopLaws.{⨾-both, ⨾-left, ⨾-right, ⨾-stop, stopIf-go, stopIf-no}
+use Rattle.wire.proofs.StopLaws.{⨾-both, ⨾-left, ⨾-right, ⨾-stop, stopIf-go, stopIf-no, stopIf-first, stopIf-second}
 use Rattle.wire.proofs.TabLaws.{length-tab, getD-tab}
 use Rattle.entry_id.specs.IdRules.{IdRules}
 use Rattle.bundle.specs.Table.{count}
@@ -34,20 +34,6 @@ use Rattle.bundle.proofs.CheckLaws.{unrefused-go, unrefused-stop}
 use Rattle.bundle.proofs.AcceptLaws.{accepted, accepted-go, past-check}
 use Rattle.bundle.proofs.PickLaws.{pick-query, picked-lt}
 use Rattle.bundle.proofs.NormalLaws.{output-stop, over-tab, length-over}
-
--- ---- the two tests after the check
-
-many-first : (a b : Bool) → (stopIf 23 a ⨾ stopIf 12 b) .number ≡ 23 → a ≡ true
-unfolding _⨾_ stopIf stopWhen
-many-first true b e = refl
-many-first false true e = absurd (omega arith)
-many-first false false e = absurd (omega arith)
-
-room-next : (a b : Bool) → (stopIf 23 a ⨾ stopIf 12 b) .number ≡ 12 → (a ≡ false) × (b ≡ true)
-unfolding _⨾_ stopIf stopWhen
-room-next true b e = absurd (omega arith)
-room-next false true e = (refl, refl)
-room-next false false e = absurd (omega arith)
 
 -- ---- the entries taken, as a word and a number, as a list and as a test
 
@@ -122,13 +108,13 @@ module _ (R : IdRules) (s buffer : List ℕ) (names slots : List (List ℕ)) whe
 
   many-is : given .number ≡ 23 → Accepted R s × (16 < length names)
   unfolding pickEach eachStop
-  many-is e = let p = past-check R s _ 23 (λ o. omega (arith, o (omega arith))) e in (p .0, ltb-true _ _ (many-first _ _ (p .1)))
+  many-is e = let p = past-check R s _ 23 (λ o. omega (arith, o (omega arith))) e in (p .0, ltb-true _ _ (stopIf-first 22 11 _ _ (λ z. omega arith) (p .1)))
 
   narrow-is : given .number ≡ 12 → Accepted R s × ((length names ≤ 16) × (length slots < length names))
   unfolding pickEach eachStop
   narrow-is e =
       let p = past-check R s _ 12 (λ o. omega (arith, o (omega arith))) e in
-      let b = room-next _ _ (p .1) in
+      let b = stopIf-second 22 11 _ _ (λ z. omega arith) (p .1) in
       (p .0, (ltb-false _ _ (b .0), ltb-true _ _ (b .1)))
 
   pub each-is : given .number ≡ 0 → Accepted R s × Slotted names slots

@@ -15,6 +15,7 @@ pub mod NormalLaws
 pub mod WriterLaws
 pub mod Demand
 pub mod EachLaws
+pub mod LookupLaws
 pub mod Demand2
 pub mod EitherSpelling
 pub mod Stricter

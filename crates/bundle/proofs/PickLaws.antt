@@ -54,7 +54,7 @@ module _ (R : IdRules) (s device : List ℕ) where
     unfolding pickStop
     picked-asked = record { bundle = accepted R s (⨾-left _ _ e); name = stopIf-no 8 _ (⨾-left _ _ (⨾-right _ _ e)) }
 
-    picked-any : anyBelow (count s) (compatibleAt R s device) ≡ true
+    pub picked-any : anyBelow (count s) (compatibleAt R s device) ≡ true
     unfolding pickStop
     picked-any = not-no _ (stopIf-no 9 _ (⨾-right _ _ (⨾-right _ _ e)))
 

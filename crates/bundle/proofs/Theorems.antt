@@ -36,13 +36,13 @@ check-exact R s = record {
 
 module _ (R : IdRules) (s device : List ℕ) where
   -- the four cases of a pick
-  data Case : Type 0 where
+  pub data Case : Type 0 where
     refuses : (k : ℕ) → bundleStop R s .number ≡ suc k → Case
     unnamed : Accepted R s → empty (R .canon device) ≡ true → Case
     nothing : Asked R s device → ((i : ℕ) → i < count s → compatibleAt R s device i ≡ false) → Case
     one : pickStop R s device .number ≡ 0 → Case
 
-  case : Case
+  pub case : Case
   case = by (bundleStop R s .number) refl
     where
       asked : Asked R s device → Case
@@ -56,13 +56,13 @@ module _ (R : IdRules) (s device : List ℕ) where
       by (suc k) e = refuses k e
 
   -- the number that each case has
-  abbrev number-of : Case → ℕ
+  abbrev pub number-of : Case → ℕ
   number-of (refuses k e) = suc k
   number-of (unnamed a q) = 9
   number-of (nothing a h) = 10
   number-of (one e) = 0
 
-  number-is : (c : Case) → pick R s device .number ≡ number-of c
+  pub number-is : (c : Case) → pick R s device .number ≡ number-of c
   unfolding pick
   number-is (refuses k e) = ap (λ (p : Picked). p .number) (pick-refused R s device k e) ∙ e
   number-is (unnamed a q) = ap (λ (p : Picked). p .number) (pick-query R s device a q)

@@ -55,6 +55,11 @@ tableStop s = stopAt 4 (count s) (λ i. badRow s (rowStart s i))
 unfoldable pub unrefused : Stop → ℕ → ℕ
 unrefused t v = elim (t .number) [ zero ↦ v | suc k ↦ 0 ]
 
+-- "names the bundle by the same number": of two bundles that are checked one after the other, 1 where the first is refused, 2 where only the second is;
+-- else `other`
+unfoldable pub refusedOf : Stop → Stop → ℕ → ℕ
+refusedOf first second other = elim (first .number) [ zero ↦ elim (second .number) [ zero ↦ other | suc k ↦ 2 ] | suc k ↦ 1 ]
+
 module _ (R : IdRules) where
   -- ID: "an ID breaks the rules"
   unfoldable pub badId : Row → Bool

@@ -4,14 +4,14 @@ use Prim.Native.Nat.{ℕ, _<_, _≤_}
 use mathlib.Core.Path.{_≡_}
 use mathlib.Core.Logic.{_↔_}
 use mathlib.Core.List.{List, map, List·Memᴰ}
-use lib.ListN.{length, take, drop}
+use lib.ListN.{length}
 use Rattle.wire.specs.Limit.{limit}
 use Rattle.entry_id.specs.IdRules.{IdRules}
 use Rattle.entry_id.specs.Meaning.{Feature, Meaning, piecesOf, feature}
 use Rattle.bundle.specs.Table.{count, row}
 use Rattle.bundle.specs.Check.{check}
 use Rattle.bundle.specs.Entry.{imageOf}
-use Rattle.bundle.specs.Pick.{pick}
+use Rattle.bundle.specs.Pick.{pick, pickedImage}
 use Rattle.bundle.specs.Normal.{over, normal, normalise, normalised}
 
 -- ---- the same entries
@@ -46,15 +46,11 @@ module _ (mean : List ℕ → Meaning) where
 -- ---- what a normal form keeps, for every `IdRules`
 
 module _ (R : IdRules) where
-  -- the bytes of the image that a pick names; none where it is refused
-  unfoldable pub pickedImage : List ℕ → List ℕ → List ℕ
-  pickedImage s device = let p = pick R s device in take (p .size) (drop (p .position) s)
-
   -- a pick from s and from t: the same image bytes, or the same number and place
   pub record SamePick (s t device : List ℕ) : Type 0 where
     pub number : pick R s device .number ≡ pick R t device .number
     pub place : pick R s device .place ≡ pick R t device .place
-    pub image : pickedImage s device ≡ pickedImage t device
+    pub image : pickedImage R s device ≡ pickedImage R t device
 
   -- normalising s writes t: "with room enough, normalising writes them and returns OK and that length"; "Room is enough at that length or more."
   pub record Writes (s t out : List ℕ) : Type 0 where

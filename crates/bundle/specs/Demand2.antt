@@ -1,6 +1,6 @@
 -- Demand 2 of bundles. Of any reading of entry IDs: what the check, its places and a pick promise, and that their tests are those on what the texts
--- mean, as they are spelled. Of the project's own rules: what the pick for each of several names, an entry by its index and the bundle writer promise,
--- which no other reading has.
+-- mean, as they are spelled. Of the project's own rules: what the pick for each of several names, the lookup in two bundles, an entry by its index and the
+-- bundle writer promise, which no other reading has.
 -- Statements only; `proofs/Demand2` proves `Demand2` and `GeneralCalls`.
 use Prim.Native.Nat.{ℕ}
 use mathlib.Core.Path.{_≡_}
@@ -17,6 +17,7 @@ use Rattle.bundle.specs.Check.{badId, meanSame, mix}
 use Rattle.bundle.specs.Pick.{compatibleAt}
 use Rattle.bundle.specs.Theorems.{CheckExact, PlaceExact, OverlapExact, ImagesApart, PickExact, FramedExact, TableDecides}
 use Rattle.bundle.specs.Each.{EachExact}
+use Rattle.bundle.specs.Lookup.{LookupExact}
 use Rattle.bundle.specs.EntryAt.{EntryExact}
 use Rattle.bundle.specs.Writer.{WritesRead}
 
@@ -52,6 +53,8 @@ module _ (R : IdRules) (valid : List ℕ → Bool) (mean : List ℕ → Meaning)
 pub record GeneralCalls : Type 0 where
   -- the pick for each of several device names (RULES 18)
   pub each : (s buffer : List ℕ) (names slots : List (List ℕ)) → EachExact idRules s buffer names slots
+  -- the image from two bundles (RULES 19)
+  pub lookup : (patch main device : List ℕ) → LookupExact idRules patch main device
   -- an entry by its index (RULES 9)
   pub entry : (s : List ℕ) (i : ℕ) → EntryExact idRules s i
   -- "What a writer writes reads back as given, in order."

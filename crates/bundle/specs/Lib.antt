@@ -9,6 +9,7 @@ pub mod Records
 pub mod Layout
 pub mod Normal
 pub mod Each
+pub mod Lookup
 pub mod Writer
 pub mod Demand
 pub mod Demand2

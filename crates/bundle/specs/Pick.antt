@@ -2,6 +2,7 @@
 use Prim.Native.Nat.{ℕ}
 use mathlib.Core.Bool.{Bool, not}
 use mathlib.Core.List.{List}
+use lib.ListN.{take, drop}
 use Rattle.wire.specs.Bytes.{empty}
 use Rattle.wire.specs.First.{first, anyBelow}
 use Rattle.wire.specs.Stop.{Stop, _⨾_, stopIf}
@@ -32,3 +33,7 @@ module _ (R : IdRules) where
       let t = pickStop s device in
       let i = chosen s device in
       record { number = t .number; place = t .place; index = unrefused t i; position = unrefused t (row s i .offset); size = unrefused t (row s i .size) }
+
+  -- the bytes of the image that a pick names; none where it is refused
+  unfoldable pub pickedImage : List ℕ → List ℕ → List ℕ
+  pickedImage s device = let p = pick s device in take (p .size) (drop (p .position) s)

@@ -16,6 +16,12 @@ pub struct Picked {
     pub size: u64,
 }
 
+// What a pick from two bundles in turn returns.
+pub struct PickedInTurn {
+    pub first: Picked,
+    pub second: Picked,
+}
+
 // What a pick for each of several device names returns: the refusal's number and place, or 0, 0, how many slots were written, the word whose bit i is set
 // where some name took entry i, and how many entries are taken.
 pub struct PickedEach {
@@ -24,6 +30,16 @@ pub struct PickedEach {
     pub slots: usize,
     pub word: u64,
     pub taken: usize,
+}
+
+// What a lookup in two bundles returns: the refusal's number and place, and the bundle that the check refuses, 1 the first or 2 the second; or 0, 0, the
+// bundle that holds the image, with the image's position in it and its size.
+pub struct Found {
+    pub number: usize,
+    pub place: usize,
+    pub bundle: usize,
+    pub position: u64,
+    pub size: u64,
 }
 
 // What a call by an entry's index returns: the refusal's number and place, or 0, 0, the position and size of the entry's image, and where its ID stands.

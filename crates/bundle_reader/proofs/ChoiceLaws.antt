@@ -4,21 +4,24 @@ use native.Mathlib.Omega.{arith}
 use mathlib.Core.Path.{_≡_, refl, sym, ap, ap₂, _∙_}
 use mathlib.Core.Bool.{Bool, true, false, not}
 use mathlib.Core.List.{List}
-use borrow.Author.Tests.{lt-ltb, le-ltb}
+use lib.ListN.{length}
+use lib.Dec.{eqb}
+use borrow.Author.Tests.{lt-ltb, le-ltb, eq-eqb, ne-eqb}
 use Rattle.wire.specs.Bytes.{empty}
 use Rattle.wire.specs.First.{first, anyBelow}
 use Rattle.wire.specs.Stop.{Stop, stop, _⨾_, stopIf, stopWhen}
+use Rattle.wire.proofs.ByteLaws.{length-empty, length-some}
 use Rattle.wire.proofs.FirstLaws.{first-same, any-same}
 use Rattle.wire.proofs.StopLaws.{⨾-go}
 use Rattle.entry_id.specs.IdRules.{IdRules, Lawful}
 use Rattle.bundle.specs.Table.{count, rowStart, row}
 use Rattle.bundle.specs.Check.{bundleStop, unrefused, check}
 use Rattle.bundle.specs.Pick.{compatibleAt, chosen, pickStop, pick}
-use Rattle.bundle.specs.Accepted.{Accepted}
+use Rattle.bundle.specs.Accepted.{RowFits, Accepted}
 use Rattle.bundle.specs.Theorems.{refusal, imageAt}
 use Rattle.bundle.specs.Records.{rowOf}
-use Rattle.bundle_reader.specs.Examined.{heldRow, text, formsOf}
-use Rattle.bundle_reader.specs.Slots.{Room, Formed, Pickable, Known, choice}
+use Rattle.bundle_reader.specs.Examined.{heldRow, text, formsOf, pickInTurn}
+use Rattle.bundle_reader.specs.Slots.{Room, Formed, Pickable, Known, choiceBy, choice, choicePick}
 use Rattle.bundle_reader.specs.declared.Choice.{Choice}
 use Rattle.bundle.specs.declared.Checked.{Checked}
 use Rattle.bundle.specs.declared.EntryRecord.{EntryRecord}
@@ -55,6 +58,13 @@ module _ (R : IdRules) (L : Lawful R) (s texts₀ lens₀ keys₀ texts lens key
   pub known : Known R s texts lens keys c
   known = record { stop-is = stop-is; pickable = pickable }
 
+-- ---- scratch that was lent keeps its room
+
+pub room-kept : (n : ℕ) (texts lens keys texts₁ lens₁ keys₁ : List ℕ) → length texts₁ ≡ length texts → length lens₁ ≡ length lens → length keys₁ ≡ length keys
+    → Room n texts lens keys → Room n texts₁ lens₁ keys₁
+room-kept n texts lens keys texts₁ lens₁ keys₁ t l k r =
+    record { texts-room = omega (arith, r .texts-room, t); lens-room = omega (arith, r .lens-room, l); keys-room = omega (arith, r .keys-room, k) }
+
 -- ---- the pick then
 
 pub picked-stop : (R : IdRules) (s device : List ℕ) (t : Stop) → t ≡ bundleStop R s → 0 < t .number → refusal (t .number) (t .place) ≡ pick R s device
@@ -64,28 +74,50 @@ picked-stop R s device t e h = cases (t .number) refl
     cases zero z = absurd (omega arith)
     cases (suc k) z = ap (λ (u : Stop). refusal (u .number) (u .place)) e ∙ sym (pick-refused R s device k (ap (λ (u : Stop). u .number) (sym e) ∙ z))
 
--- ---- the choice of an entry, from n slots and a name that is or is not canonical
+-- ---- a choice as a pick
 
-module _ (R : IdRules) (texts lens : List ℕ) (n : ℕ) (device : List ℕ) where
+pub choicePick-image : (c : Choice) (r : EntryRecord) → c .number ≡ 0 → choicePick c r ≡ record { number = 0; place = 0; index = c .index; position = r .«image_start»; size = r .«image_len» }
+unfolding choicePick
+choicePick-image c r e = rw (e, choicePick)
+
+choicePick-stop : (c : Choice) (r : EntryRecord) (k : ℕ) → c .number ≡ suc k → choicePick c r ≡ refusal (c .number) 0
+unfolding choicePick
+choicePick-stop c r k e = rw (e, choicePick)
+
+pub choicePick-refused : (c : Choice) (r : EntryRecord) → 0 < c .number → choicePick c r ≡ refusal (c .number) 0
+choicePick-refused c r h = cases (c .number) refl
+  where
+    cases : (k : ℕ) → c .number ≡ k → choicePick c r ≡ refusal (c .number) 0
+    cases zero z = absurd (omega arith)
+    cases (suc k) z = choicePick-stop c r k z
+
+-- ---- the choice of an entry, from n slots and a canonical name, or none
+
+module _ (R : IdRules) (texts lens : List ℕ) (n : ℕ) (name : List ℕ) where
   fitting : ℕ → Bool
-  fitting k = R .compatible (text texts lens k) (R .canon device)
+  fitting k = R .compatible (text texts lens k) name
 
-  pub choice-query : empty (R .canon device) ≡ true → record { number = 9; index = 0 } ≡ choice R texts lens n device
-  unfolding choice stopIf stopWhen _⨾_ unrefused
-  choice-query q = rw q
+  pub choice-query : length name ≡ 0 → record { number = 9; index = 0 } ≡ choiceBy R texts lens n name
+  unfolding choiceBy stopIf stopWhen _⨾_ unrefused
+  choice-query z = rw (length-empty name z)
 
-  module _ (some : empty (R .canon device) ≡ false) (name : List ℕ) (e : name ≡ R .canon device) (i : ℕ) (f : i ≡ first n (λ k. R .compatible (text texts lens k) name)) where
+  module _ (some : length name ≡ 0 → ⊥) (i : ℕ) (f : i ≡ first n (λ k. R .compatible (text texts lens k) name)) where
     at-first : i ≡ first n fitting
     unfolding fitting
-    at-first = f ∙ ap (λ z. first n (λ k. R .compatible (text texts lens k) z)) e
+    at-first = f
 
-    pub choice-none : n ≤ i → record { number = 10; index = 0 } ≡ choice R texts lens n device
-    unfolding choice stopIf stopWhen _⨾_ unrefused anyBelow fitting
-    choice-none h = rw (some, sym at-first, le-ltb i n h)
+    pub choice-none : n ≤ i → record { number = 10; index = 0 } ≡ choiceBy R texts lens n name
+    unfolding choiceBy stopIf stopWhen _⨾_ unrefused anyBelow fitting
+    choice-none h = rw (length-some name some, sym at-first, le-ltb i n h)
 
-    pub choice-found : i < n → record { number = 0; index = i } ≡ choice R texts lens n device
-    unfolding choice stopIf stopWhen _⨾_ unrefused anyBelow fitting
-    choice-found h = rw (some, sym at-first, lt-ltb i n h)
+    pub choice-found : i < n → record { number = 0; index = i } ≡ choiceBy R texts lens n name
+    unfolding choiceBy stopIf stopWhen _⨾_ unrefused anyBelow fitting
+    choice-found h = rw (length-some name some, sym at-first, lt-ltb i n h)
+
+-- by a device name whose canonical form this is
+pub choice-by : (R : IdRules) (texts lens : List ℕ) (n : ℕ) (name device : List ℕ) → name ≡ R .canon device → choiceBy R texts lens n name ≡ choice R texts lens n device
+unfolding choice
+choice-by R texts lens n name device e = ap (choiceBy R texts lens n) e
 
 -- 9 and 10, where n entries are asked whether they are compatible
 abbrev asked : IdRules → List ℕ → ℕ → (ℕ → Bool) → Stop
@@ -104,7 +136,7 @@ module _ (R : IdRules) (s texts lens keys : List ℕ) (n : ℕ) (p : Pickable R 
   same-fitting k h = ap (λ z. R .compatible z (R .canon device)) (p .held k h .text-is)
 
   pub choice-is : choice R texts lens n device ≡ record { number = pick R s device .number; index = pick R s device .index }
-  unfolding choice pick pickStop chosen
+  unfolding choice choiceBy pick pickStop chosen
   choice-is =
       rw (accepted-go R s (p .sound), ⨾-go (asked R device (count s) (compatibleAt R s device)), sym (p .count-is), first-same n _ _ same-fitting, any-same n _ _ same-fitting)
 
@@ -148,6 +180,18 @@ module _ (R : IdRules) (s texts lens keys : List ℕ) (n : ℕ) (p : Pickable R 
           ap (λ x. record { number = 0; place = 0; index = r .index; position = x .offset; size = x .size }) (row-is s (r .index) _ refl q w)
           ∙ sym image-is
 
+    -- the pick that it gives
+    pub choice-pick : choicePick r (heldRow s (rowStart s (r .index))) ≡ pick R s device
+    choice-pick = cases (r .number) refl
+      where
+        cases : (k : ℕ) → r .number ≡ k → choicePick r (heldRow s (rowStart s (r .index))) ≡ pick R s device
+        cases zero z = choicePick-image r _ z ∙ choice-image z (heldRow s (rowStart s (r .index))) refl
+        cases (suc k) z = choicePick-stop r _ k z ∙ choice-refused (omega arith)
+
+    -- the rows up to it fit
+    pub choice-fits : r .number ≡ 0 → (k : ℕ) → k ≤ r .index → RowFits s (rowStart s k)
+    choice-fits z k h = p .sound .frame .rows k (omega (arith, h, choice-lt z, p .count-is))
+
     -- there is a row for it among 64
     pub choice-room : r .index < 64
     choice-room = cases (r .number) refl
@@ -155,3 +199,18 @@ module _ (R : IdRules) (s texts lens keys : List ℕ) (n : ℕ) (p : Pickable R 
         cases : (k : ℕ) → r .number ≡ k → r .index < 64
         cases zero z = omega (arith, choice-lt z, p .count-is, p .sound .frame .few)
         cases (suc k) z = omega (arith, index-is, ap (λ (x : Picked). x .index) (choice-refused (omega arith)))
+
+-- ---- two bundles in turn
+
+module _ (R : IdRules) (a b device : List ℕ) (p q : Picked) (e : p ≡ pick R a device) where
+  pub turn-none : p .number ≡ 10 → q ≡ pick R b device → record { first = p; second = q } ≡ pickInTurn R a b device
+  unfolding pickInTurn
+  turn-none n f =
+      let z : eqb (pick R a device .number) 10 ≡ true = eq-eqb _ _ (ap (λ (x : Picked). x .number) (sym e) ∙ n) in
+      rw (z, e, f)
+
+  pub turn-other : (p .number ≡ 10 → ⊥) → (c : Checked) → c ≡ check R b → q ≡ refusal (c .number) (c .place) → record { first = p; second = q } ≡ pickInTurn R a b device
+  unfolding pickInTurn
+  turn-other n c g f =
+      let z : eqb (pick R a device .number) 10 ≡ false = ne-eqb _ _ (λ h. n (ap (λ (x : Picked). x .number) e ∙ h)) in
+      rw (z, e, f, g)

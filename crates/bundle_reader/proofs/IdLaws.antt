@@ -4,7 +4,7 @@ use native.Mathlib.Omega.{arith}
 use mathlib.Core.Path.{_≡_, refl, sym, ap, ap₂, _∙_, subst}
 use mathlib.Core.List.{List, _++_}
 use lib.Dec.{eqb}
-use lib.ListN.{length, getD, take, drop, length-drop}
+use lib.ListN.{length, getD, take, drop, replicate, length-drop}
 use lib.Seq.{length-take-le, take-at}
 use mathlib.Core.Bool.{Bool, true, false}
 use borrow.Author.Tests.{eq-eqb, eqb-false}
@@ -15,19 +15,23 @@ use Rattle.entry_id.proofs.KeyLaws.{key-same, key-mixed, key-compatible}
 use Rattle.canonical_form.specs.Made.{formOf}
 use Rattle.canonical_form.specs.declared.Form.{Form}
 use Rattle.bundle_reader.specs.Examined.{text}
-use Rattle.wire.proofs.ByteLaws.{length-empty, length-some}
-use Rattle.wire.specs.Bytes.{empty, overwrite}
+use Rattle.wire.specs.Bytes.{overwrite}
 use Rattle.entry_id.specs.Canonical.{headKey, sameText, mixedText, compatibleText}
 use Rattle.entry_id.specs.Rules.{idRules, rulesOf, formIn}
 use Rattle.entry_id.specs.declared.Reading.{Reading}
 use Rattle.entry_id.proofs.RuleLaws.{rules-lawful, form-whole, canonOf-general, same-rules, mixed-rules, compatible-rules}
-use Rattle.bundle_reader.specs.Slots.{Canonical, Texts, near, relation}
+use Rattle.bundle_reader.specs.Slots.{Canonical, Texts, Named, near, relation}
 use Rattle.bundle_reader.proofs.SlotLaws.{slot-written, more-here, first-more}
 
 -- what `canonical_by` leaves of an ID x in the room that it was lent
 pub record Made (reading : Reading) (x before after : List ℕ) (made : Form) : Type 0 where
   pub form-is : made ≡ formOf (formIn reading (length before) x)
   pub text : after ≡ formIn reading (length before) x ++ drop (made .length) before
+
+-- in an array of 256 bytes
+pub made-name : (reading : Reading) (x after : List ℕ) (made : Form) → made ≡ formOf (formIn reading 256 x) → after ≡ formIn reading 256 x ++ drop (made .length) (replicate 256 0)
+    → Made reading x (replicate 256 0) after made
+made-name reading x after made e f = record { form-is = e; text = f }
 
 module _ (reading : Reading) (x before after : List ℕ) (made : Form) (room : length before ≡ 256) (m : Made reading x before after made) where
   abbrev n : ℕ
@@ -58,15 +62,9 @@ module _ (reading : Reading) (x before after : List ℕ) (made : Form) (room : l
     pub name-length : length (take n after) ≡ n
     name-length = length-take-le n after name-fits
 
-  pub name-none : n ≡ 0 → empty (rulesOf reading .canon x) ≡ true
-  name-none z = length-empty (rulesOf reading .canon x) (sym made-size ∙ z)
-
-  module _ (z : n ≡ 0 → ⊥) where
-    pub name-some : empty (rulesOf reading .canon x) ≡ false
-    name-some = length-some (rulesOf reading .canon x) (λ (q : length (rulesOf reading .canon x) ≡ 0). z (made-size ∙ q))
-
-    pub name-canonical : Canonical (rulesOf reading) (take n after)
-    name-canonical = rw name-is (record { again = rules-lawful reading .canon-again x; some = name-some })
+  pub name-named : Named idRules (take n after) (made .key)
+  unfolding rulesOf
+  name-named = record { again = subst (λ z. idRules .canon z ≡ z) (sym name-is) (canonOf-general reading x); key-is = name-key }
 
 -- to slot i of the texts, from the ID's part of s: the parts' lengths as the code has them
 pub made-slot : (reading : Reading) (s texts last : List ℕ) (start len w i q : ℕ) (made : Form) → w ≡ len → q ≡ 256 → i * 256 + 256 ≤ length texts

@@ -1,8 +1,10 @@
--- What `examine` and `examine_records` promise: the answer, and every byte of the scratch that they are lent. Definitions only.
+-- What `examine` and `examine_records` promise: the answer, and every byte of the scratch that they are lent; and what `pick_in_turn` promises. Definitions
+-- only.
 -- Canonical IDs lie in slots of 256 bytes of one buffer, their lengths in another.
 use Prim.Native.Nat.{ℕ, zero, suc, _+_, _*_}
+use mathlib.Core.Bool.{cond}
 use mathlib.Core.List.{List}
-use lib.Dec.{ltb}
+use lib.Dec.{eqb, ltb}
 use lib.ListN.{length, getD, take, drop, set, replicate}
 use Rattle.wire.specs.Bytes.{overwrite}
 use Rattle.wire.specs.First.{first}
@@ -10,9 +12,12 @@ use Rattle.wire.specs.Stop.{Stop, _⨾_, stopIf, stopAt}
 use Rattle.wire.specs.Word.{word}
 use Rattle.entry_id.specs.IdRules.{IdRules}
 use Rattle.bundle.specs.Table.{Row, count, rowStart, row}
-use Rattle.bundle.specs.Check.{badId, unrefused, headStop, tableStop, bundleStop}
+use Rattle.bundle.specs.Check.{badId, unrefused, headStop, tableStop, bundleStop, check}
+use Rattle.bundle.specs.Pick.{pick}
 use Rattle.bundle.specs.Records.{noRecord, recordAt, rowsOf, badPart, recordsStop}
+use Rattle.bundle.specs.Theorems.{refusal}
 use Rattle.bundle.specs.declared.EntryRecord.{EntryRecord}
+use Rattle.bundle.specs.declared.PickedInTurn.{PickedInTurn}
 use Rattle.bundle_reader.specs.declared.Examined.{Examined}
 use Rattle.bundle_reader.specs.declared.Refusal.{Refusal}
 
@@ -72,3 +77,10 @@ module _ (R : IdRules) where
 
   unfoldable pub formsOfRecords : List ℕ → ℕ → List EntryRecord → ℕ
   formsOfRecords ids n records = made R (stopIf 3 (ltb 64 n) ⨾ stopAt 4 n (λ i. badPart (length ids) (recordAt records i))) n (rowsOf ids records)
+
+  -- of two bundles: the pick from the first, and from the second where the first says NONE; else what the check of the second refuses it by, or 0
+  unfoldable pub pickInTurn : List ℕ → List ℕ → List ℕ → PickedInTurn
+  pickInTurn first second device =
+      let p = pick R first device in
+      let c = check R second in
+      record { first = p; second = cond (eqb (p .number) 10) (pick R second device) (refusal (c .number) (c .place)) }

@@ -16,7 +16,9 @@ use Rattle.bundle.specs.Check.{badId, outside, overlapStop, unrefused, rowsStop
 use Rattle.bundle.specs.Accepted.{RowFits, Accepted}
 use Rattle.bundle.specs.Records.{rowsOf}
 use Rattle.bundle.specs.declared.Checked.{Checked}
+use Rattle.bundle.specs.Theorems.{refusal}
 use Rattle.bundle.specs.declared.EntryRecord.{EntryRecord}
+use Rattle.bundle.specs.declared.Picked.{Picked}
 use Rattle.entry_compare.specs.declared.Relation.{Relation}
 use Rattle.bundle_reader.specs.declared.Choice.{Choice}
 use Rattle.bundle_reader.specs.Examined.{filled, slots, text, form, formLength, rowsIn, formsOf}
@@ -118,12 +120,25 @@ pub record Known (R : IdRules) (s texts lens keys : List ℕ) (c : Checked) : Ty
   pub stop-is : stop (c .number) (c .place) ≡ bundleStop R s
   pub pickable : c .number ≡ 0 → Pickable R s texts lens keys (c .count)
 
--- the choice of one of n slots by a device name: 9 "the device name breaks the ID rules", 10 "no compatible entry"; else the first that is compatible
-unfoldable pub choice : IdRules → List ℕ → List ℕ → ℕ → List ℕ → Choice
-choice R texts lens n device =
-    let p : ℕ → Bool = λ k. R .compatible (text texts lens k) (R .canon device) in
-    let t = stopIf 9 (empty (R .canon device)) ⨾ stopIf 10 (not (anyBelow n p)) in
+-- the canonical form of a device name, with its head's number; empty where the name breaks the ID rules
+pub record Named (R : IdRules) (name : List ℕ) (key : ℕ) : Type 0 where
+  pub again : R .canon name ≡ name
+  pub key-is : key ≡ headKey name
+
+-- the choice of one of n slots by it: 9 "the device name breaks the ID rules", 10 "no compatible entry"; else the first that is compatible
+unfoldable pub choiceBy : IdRules → List ℕ → List ℕ → ℕ → List ℕ → Choice
+choiceBy R texts lens n name =
+    let p : ℕ → Bool = λ k. R .compatible (text texts lens k) name in
+    let t = stopIf 9 (empty name) ⨾ stopIf 10 (not (anyBelow n p)) in
     record { number = t .number; index = unrefused t (first n p) }
+
+-- the choice by a device name
+unfoldable pub choice : IdRules → List ℕ → List ℕ → ℕ → List ℕ → Choice
+choice R texts lens n device = choiceBy R texts lens n (R .canon device)
+
+-- the pick that a choice gives, where r is the row of the entry chosen
+unfoldable pub choicePick : Choice → EntryRecord → Picked
+choicePick c r = elim (c .number) [ zero ↦ record { number = 0; place = 0; index = c .index; position = r .«image_start»; size = r .«image_len» } | suc k ↦ refusal (suc k) 0 ]
 
 -- its slot, where r is the row of the entry chosen
 unfoldable pub choiceSlot : Choice → EntryRecord → List ℕ

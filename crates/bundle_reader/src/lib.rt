@@ -1,5 +1,6 @@
 // The check of a bundle, the pick of the image for a device name or for each of several, and the entry at an index.
 mod each;
+mod turn;
 
 ghost use mathlib.Core.Path.{_≡_};
 ghost use mathlib.Core.Bool.{true, false};
@@ -23,14 +24,16 @@ ghost use Rattle.bundle.specs.Theorems.{refusal};
 ghost use Rattle.bundle.specs.EntryAt.{entryAt, unlocated};
 ghost use Rattle.bundle.specs.Records.{noRecord, recordAt, rowsOf, badPart};
 ghost use Rattle.canonical_form.specs.Made.{formOf};
-ghost use Rattle.bundle_reader.specs.Examined.{filled, slots, text, form, formLength, heldRow, rowsIn, examined, formsOf, examinedRecords, formsOfRecords};
-ghost use Rattle.bundle_reader.specs.Slots.{Inner, span, spans, Spans, Compared, Tabled, firstMore, Room, Formed, Canonical, Texts, choice, Known, near, relation, relations};
+ghost use Rattle.bundle_reader.specs.Examined.{filled, slots, text, form, formLength, heldRow, rowsIn, examined, formsOf, examinedRecords, formsOfRecords, pickInTurn};
+ghost use Rattle.bundle_reader.specs.Slots.{Inner, span, spans, Spans, Compared, Tabled, firstMore, Room, Formed, Canonical, Texts, Named, choiceBy, choice, choicePick, Known, near, relation, relations};
 use crate::each::pick_each_in;
+use crate::turn::pick_in_turn_in;
 use bundle::Checked;
 use bundle::EntryRecord;
 use bundle::Located;
 use bundle::Picked;
 use bundle::PickedEach;
+use bundle::PickedInTurn;
 use canonical_form::Form;
 use entry_compare::Relation;
 use entry_id::Reading;
@@ -788,7 +791,33 @@ fn row_of(s: &[u8], i: usize) -> EntryRecord
     row_at(s, at)
 }
 
-// The choice of one of n entries by a device name, from their canonical IDs: the one that is compatible, 9 QUERY or 10 NONE.
+// The choice of one of n entries by a device name that was made canonical, from their canonical IDs: the one that is compatible, or 10 NONE; 9 QUERY where
+// there is no such name.
+fn choose_named(
+    n: usize,
+    name: &[u8],
+    key: u64,
+    texts: &[u8],
+    lens: &[usize],
+    keys: &[u64],
+) -> Choice
+    requires { ⌜ Texts idRules (now texts) (now lens) (now keys) n × Named idRules (now name) key ⌝ }
+    ensures { λ r. ⌜ r ≡ choiceBy idRules (now (texts .entry)) (now (lens .entry)) n (now (name .entry)) ⌝ }
+{
+    if name.len() == 0 {
+        return no_choice(9);
+    }
+    let i = first_compatible(texts, lens, keys, n, name, key);
+    if n <= i {
+        return no_choice(10);
+    }
+    Choice {
+        number: 0,
+        index: i,
+    }
+}
+
+// The same by a device name.
 fn choose(
     reading: Reading,
     n: usize,
@@ -803,16 +832,26 @@ fn choose(
     let mut name = [0u8; 256];
     let made = profile_form::canonical_by(reading, device, &mut name);
     let len = made.length;
-    if len == 0 {
-        return no_choice(9);
+    choose_named(n, &name[..len], made.key, texts, lens, keys)
+}
+
+// The pick that a choice gives, from a table in which no row up to that of the entry chosen is bad.
+fn pick_chosen(s: &[u8], chosen: Choice) -> Picked
+    requires { ⌜ (chosen .number ≡ 0 → (k : ℕ) → k ≤ chosen .index → RowFits (now s) (rowStart (now s) k)) ⌝ }
+    ensures { λ r. ⌜ r ≡ choicePick chosen (heldRow (now (s .entry)) (rowStart (now (s .entry)) (chosen .index))) ⌝ }
+{
+    let refusal = chosen.number;
+    if 0 < refusal {
+        return no_image(refusal, 0);
     }
-    let i = first_compatible(texts, lens, keys, n, &name[..len], made.key);
-    if n <= i {
-        return no_choice(10);
-    }
-    Choice {
+    let i = chosen.index;
+    let row = row_of(s, i);
+    Picked {
         number: 0,
+        place: 0,
         index: i,
+        position: row.image_start as u64,
+        size: row.image_len as u64,
     }
 }
 
@@ -833,20 +872,7 @@ fn pick_checked(
     if 0 < number {
         return no_image(number, c.place);
     }
-    let chosen = choose(reading, c.count, device, texts, lens, keys);
-    let refusal = chosen.number;
-    if 0 < refusal {
-        return no_image(refusal, 0);
-    }
-    let i = chosen.index;
-    let row = row_of(s, i);
-    Picked {
-        number: 0,
-        place: 0,
-        index: i,
-        position: row.image_start as u64,
-        size: row.image_len as u64,
-    }
+    pick_chosen(s, choose(reading, c.count, device, texts, lens, keys))
 }
 
 // The pick from a bundle of few entries, which needs little scratch.
@@ -886,6 +912,30 @@ pub fn pick(bundle: &[u8], device: &[u8]) -> Picked
     ensures { λ r. ⌜ r ≡ pick idRules (now (bundle .entry)) (now (device .entry)) ⌝ }
 {
     pick_by(Reading::General, bundle, device)
+}
+
+// The pick from a first bundle by a device name, and from a second one where the first says NONE; else the second is only checked. Few entries need little
+// scratch.
+pub fn pick_in_turn(first: &[u8], second: &[u8], device: &[u8]) -> PickedInTurn
+    ensures { λ r. ⌜ r ≡ pickInTurn idRules (now (first .entry)) (now (second .entry)) (now (device .entry)) ⌝ }
+{
+    if (wire_read::word8_at(first, 24) <= 8) & (wire_read::word8_at(second, 24) <= 8) {
+        let mut few = [0u8; 2048];
+        let mut few_lens = [0usize; 8];
+        let mut few_keys = [0u64; 8];
+        return pick_in_turn_in(
+            first,
+            second,
+            device,
+            &mut few,
+            &mut few_lens,
+            &mut few_keys,
+        );
+    }
+    let mut lens = [0usize; 64];
+    let mut keys = [0u64; 64];
+    let mut texts = [0u8; 16384];
+    pick_in_turn_in(first, second, device, &mut texts, &mut lens, &mut keys)
 }
 
 // The pick for each of several device names, parts of a buffer by their starts and lengths: a slot for each, with number, index, position and size. Few

@@ -13,19 +13,21 @@ use Rattle.entry_id.specs.Meaning.{nameByte, fieldByte, processorByte, processo
 use Rattle.entry_id.specs.Compare.{comparedKind, comparedAs, sameTarget, sameFeature, compatible, sameNames, sameMeaning, mixed}
 use Rattle.entry_id.specs.Rules.{idRules}
 use Rattle.bundle.specs.Table.{magic, count, rowStart, rowAt, row, tableEnd}
-use Rattle.bundle.specs.Check.{badRow, outside, shareByte, sameSpan, overlaps, overlapStop, headStop, tableStop, unrefused, badId, meanSame, mix, rowsStop, bundleStop, check}
-use Rattle.bundle.specs.Pick.{compatibleAt, chosen, pickStop, pick}
+use Rattle.bundle.specs.Check.{badRow, outside, shareByte, sameSpan, overlaps, overlapStop, headStop, tableStop, unrefused, refusedOf, badId, meanSame, mix, rowsStop, bundleStop, check}
+use Rattle.bundle.specs.Pick.{compatibleAt, chosen, pickStop, pick, pickedImage}
 use Rattle.bundle.specs.Entry.{imageOf, entryOf, entriesOf}
 use Rattle.bundle.specs.Layout.{rowBytes, table, bundle, packedEnd, packedLength, images, packed, encode}
 use Rattle.bundle.specs.EntryAt.{entryStop, entryAt}
 use Rattle.bundle.specs.Normal.{roomStop, answer, over, output, normal, normalLength, normaliseStop, normalise}
 use Rattle.bundle.specs.Each.{partOf, slotOf, took, pickAt, taken, eachStop, pickEach, slotsAfter}
+use Rattle.bundle.specs.Lookup.{has, lookupStop, bundleOf, answering, lookup, lookupImage}
 use Rattle.offload_binary.specs.Lists as lists
 use Rattle.offload_binary.specs.Binary as binary
 use Rattle.offload_binary.specs.Contents as contents
 use Rattle.offload_binary.specs.Reader as reader
 use Rattle.examples.specs.Examples.{Examples}
 use Rattle.examples.specs.EachExamples.{EachExamples}
+use Rattle.examples.specs.LookupExamples.{LookupExamples}
 
 -- what the examples of bundles compute to
 unfoldable bundles : Unit {0}
@@ -103,4 +105,24 @@ each-examples = record {
   short = refl;
   refused = refl;
   refused-slots = refl;
+}
+
+pub lookup-examples : LookupExamples
+unfolding bundles refusedOf pickedImage has lookupStop bundleOf answering lookup lookupImage
+lookup-examples = record {
+  by-patch = refl;
+  by-patch-image = refl;
+  by-main = refl;
+  by-main-image = refl;
+  no-patch = refl;
+  empty-image = refl;
+  empty-image-part = refl;
+  either-kind = refl;
+  query = refl;
+  none = refl;
+  patch-refused = refl;
+  main-refused = refl;
+  main-overlaps = refl;
+  before-query = refl;
+  no-part = refl;
 }

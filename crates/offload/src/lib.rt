@@ -6,6 +6,7 @@ ghost use Rattle.entry_id.specs.Rules.{idRules};
 ghost use Rattle.bundle.specs.Check.{check};
 ghost use Rattle.bundle.specs.Pick.{pick};
 ghost use Rattle.bundle.specs.Each.{pickEach, slotsAfter};
+ghost use Rattle.bundle.specs.Lookup.{lookup};
 ghost use Rattle.bundle.specs.EntryAt.{entryAt};
 ghost use Rattle.bundle.specs.Normal.{normalise, normalised};
 ghost use lib.ListN.{length};
@@ -129,6 +130,41 @@ pub extern "C" fn offload_pick_each_taken(
     ensures { λ _. ⌜ now (slots .exit) ≡ slotsAfter idRules (now (bundle .entry)) (now (buffer .entry)) (now (names .entry)) (now (slots .entry)) ⌝ }
 {
     bundle_reader::pick_each(bundle, buffer, names, slots).taken as u64
+}
+
+#[no_mangle]
+pub extern "C" fn offload_lookup_number(patch: &[u8], main: &[u8], device: &[u8]) -> u64
+    ensures { λ r. ⌜ r ≡ lookup idRules (now (patch .entry)) (now (main .entry)) (now (device .entry)) .number ⌝ }
+{
+    bundle_lookup::find_image(patch, main, device).number as u64
+}
+
+#[no_mangle]
+pub extern "C" fn offload_lookup_place(patch: &[u8], main: &[u8], device: &[u8]) -> u64
+    ensures { λ r. ⌜ r ≡ lookup idRules (now (patch .entry)) (now (main .entry)) (now (device .entry)) .place ⌝ }
+{
+    bundle_lookup::find_image(patch, main, device).place as u64
+}
+
+#[no_mangle]
+pub extern "C" fn offload_lookup_bundle(patch: &[u8], main: &[u8], device: &[u8]) -> u64
+    ensures { λ r. ⌜ r ≡ lookup idRules (now (patch .entry)) (now (main .entry)) (now (device .entry)) .bundle ⌝ }
+{
+    bundle_lookup::find_image(patch, main, device).bundle as u64
+}
+
+#[no_mangle]
+pub extern "C" fn offload_lookup_position(patch: &[u8], main: &[u8], device: &[u8]) -> u64
+    ensures { λ r. ⌜ r ≡ lookup idRules (now (patch .entry)) (now (main .entry)) (now (device .entry)) .position ⌝ }
+{
+    bundle_lookup::find_image(patch, main, device).position
+}
+
+#[no_mangle]
+pub extern "C" fn offload_lookup_size(patch: &[u8], main: &[u8], device: &[u8]) -> u64
+    ensures { λ r. ⌜ r ≡ lookup idRules (now (patch .entry)) (now (main .entry)) (now (device .entry)) .size ⌝ }
+{
+    bundle_lookup::find_image(patch, main, device).size
 }
 
 #[no_mangle]

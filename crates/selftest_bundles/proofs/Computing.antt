@@ -5,9 +5,10 @@ use Rattle.wire.specs.Bits.{bitsBelow, countBelow}
 use Rattle.wire.specs.First.{first, anyBelow}
 use Rattle.wire.specs.Stop.{_⨾_, stopWhen, stopIf, stopAt, earlier}
 use Rattle.bundle.specs.Table.{magic, count, rowStart, rowAt, row, tableEnd}
-use Rattle.bundle.specs.Check.{badRow, outside, shareByte, sameSpan, overlaps, overlapStop, headStop, tableStop, unrefused, badId, meanSame, mix, rowsStop, bundleStop, check}
-use Rattle.bundle.specs.Pick.{compatibleAt, chosen, pickStop, pick}
+use Rattle.bundle.specs.Check.{badRow, outside, shareByte, sameSpan, overlaps, overlapStop, headStop, tableStop, unrefused, refusedOf, badId, meanSame, mix, rowsStop, bundleStop, check}
+use Rattle.bundle.specs.Pick.{compatibleAt, chosen, pickStop, pick, pickedImage}
 use Rattle.bundle.specs.Each.{partOf, slotOf, pickAt, eachStop, slotsAfter}
+use Rattle.bundle.specs.Lookup.{numbersOf, has, lookupStop, bundleOf, answering, lookup, lookupImage}
 use Rattle.bundle.specs.EntryAt.{entryStop, entryAt}
 use Rattle.bundle.specs.Entry.{imageOf, entryOf, entriesOf}
 use Rattle.bundle.specs.Layout.{rowBytes, table, bundle, packedEnd, packedLength, images, packed, encode}
@@ -26,3 +27,8 @@ bundles = tt
 unfoldable pub each : Unit {0}
 unfolding bundles bitsBelow countBelow partOf slotOf pickAt eachStop slotsAfter slotsTook answerOf bySlots
 each = tt
+
+-- the lookup in two bundles
+unfoldable pub lookups : Unit {0}
+unfolding bundles refusedOf pickedImage numbersOf has lookupStop bundleOf answering lookup lookupImage
+lookups = tt

@@ -3,6 +3,7 @@
 mod bundle_writer;
 mod bundles;
 mod each;
+mod lookup;
 
 // Every case.
 pub fn run() {
@@ -38,6 +39,9 @@ pub fn run() {
     each::long_names();
     each::side_by_side();
     each::one_entry();
+    lookup::answers();
+    lookup::no_answer();
+    lookup::refused();
     bundle_writer::written();
     bundle_writer::written_before();
     bundle_writer::no_room();

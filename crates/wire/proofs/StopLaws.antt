@@ -61,6 +61,19 @@ unfolding stopIf stopWhen
 stopIf-yes k true e = refl
 stopIf-yes k false e = absurd (omega arith)
 
+-- the number says which of two tests refuses
+pub stopIf-first : (j k : ℕ) (a b : Bool) → (j ≡ k → ⊥) → (stopIf (suc j) a ⨾ stopIf (suc k) b) .number ≡ suc j → a ≡ true
+unfolding _⨾_ stopIf stopWhen
+stopIf-first j k true b h e = refl
+stopIf-first j k false true h e = absurd (h (omega arith))
+stopIf-first j k false false h e = absurd (omega arith)
+
+pub stopIf-second : (j k : ℕ) (a b : Bool) → (j ≡ k → ⊥) → (stopIf (suc j) a ⨾ stopIf (suc k) b) .number ≡ suc k → (a ≡ false) × (b ≡ true)
+unfolding _⨾_ stopIf stopWhen
+stopIf-second j k true b h e = absurd (h (omega arith))
+stopIf-second j k false true h e = (refl, refl)
+stopIf-second j k false false h e = absurd (omega arith)
+
 pub stopAt-go : (k n : ℕ) (p : ℕ → Bool) → ((i : ℕ) → i < n → p i ≡ false) → stopAt k n p ≡ go
 unfolding stopAt stopWhen
 stopAt-go k n p h = rw (any-none n p h)

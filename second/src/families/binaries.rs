@@ -81,17 +81,8 @@ impl Family for Binaries {
     }
 
     fn run(&mut self, random: &mut Random) -> Result<(), Difference> {
-        if random.one_in(50) {
-            self.case = sample_case(random);
-            return self.compare().map(drop);
-        }
-        let mut draft = some_draft(random);
-        let aim = apply_aims(&self.aims, &mut draft, random);
-        self.case = draft.case();
-        if random.one_in(12) {
-            shake(&mut self.case, random);
-            return self.compare().map(drop);
-        }
+        let (case, aim) = some_case(&self.aims, random, sample_case, some_draft, Draft::case, shake);
+        self.case = case;
         let number = self.compare()?.last().map_or(OK, |answer| answer.number);
         aim.into_iter().for_each(|aim| self.report.aimed(aim, number));
         Ok(())

@@ -171,17 +171,12 @@ impl Family for Bundles {
     }
 
     fn run(&mut self, random: &mut Random) -> Result<(), Difference> {
-        if random.one_in(50) {
-            return self.run_case(sample_case(random), None);
-        }
-        let count = some_count(random);
-        let mut draft = Draft::good(self.reading, random, count);
-        let aim = apply_aims(&self.aims, &mut draft, random);
-        let mut case = draft.case();
-        if random.one_in(12) {
-            shake(&mut case.bundle, random);
-            return self.run_case(case, None);
-        }
+        let draft = |random: &mut Random| {
+            let count = some_count(random);
+            Draft::good(self.reading, random, count)
+        };
+        let shake = |case: &mut Case, random: &mut Random| shake(&mut case.bundle, random);
+        let (case, aim) = some_case(&self.aims, random, sample_case, draft, Draft::case, shake);
         self.run_case(case, aim)
     }
 

@@ -152,8 +152,7 @@ impl Family for Each {
         }
         let mut cases = each_cases();
         let devices: Vec<&[u8]> = samples::DEVICES.iter().map(|device| device.as_bytes()).collect();
-        let bundles = samples::BUNDLES.iter().map(|sample| sample.bytes);
-        for bundle in bundles.chain(samples::REFUSED.iter().map(|sample| sample.bytes)) {
+        for bundle in samples::all_bundles() {
             cases.extend(devices.chunks(DEVICE_LIMIT as usize).map(|devices| case_of(bundle.to_vec(), devices)));
             cases.push(case_of(bundle.to_vec(), &devices));
         }
@@ -165,16 +164,8 @@ impl Family for Each {
     }
 
     fn run(&mut self, random: &mut Random) -> Result<(), Difference> {
-        if random.one_in(50) {
-            return self.run_case(sample_case(random), None);
-        }
-        let mut draft = some_draft(random);
-        let aim = apply_aims(&self.aims, &mut draft, random);
-        let mut case = draft.case();
-        if random.one_in(12) {
-            shake(&mut case.bundle, random);
-            return self.run_case(case, None);
-        }
+        let shake = |case: &mut Case, random: &mut Random| shake(&mut case.bundle, random);
+        let (case, aim) = some_case(&self.aims, random, sample_case, some_draft, Draft::case, shake);
         self.run_case(case, aim)
     }
 

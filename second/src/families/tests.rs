@@ -1,6 +1,7 @@
 //! The comparison itself: against the model it finds nothing and meets every line; against a library with a slip it finds it.
 
 mod each;
+mod lookup;
 mod processors;
 mod profile;
 
@@ -29,6 +30,16 @@ fn meets_every_line(mut family: impl Family) {
     family.run_fixed().unwrap();
     run_generated(&mut family, 8000).unwrap();
     assert_eq!(family.report().missing_lines(), Vec::<String>::new());
+}
+
+/// The cases that are no matter of chance meet every line, and nearly each case that is aimed at a line meets it.
+fn meets_every_line_in_any_run(mut family: impl Family) {
+    family.run_fixed().unwrap();
+    assert_eq!(family.report().missing_lines(), Vec::<String>::new());
+    run_generated(&mut family, 6000).unwrap();
+    for AimTally { name, tried, met, .. } in &family.report().aims {
+        assert!(10 * met >= 8 * tried, "{name}: {met} of {tried}");
+    }
 }
 
 #[test]

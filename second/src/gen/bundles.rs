@@ -9,7 +9,7 @@ use super::pairs::{self, Pair};
 use super::random::Random;
 use super::{Aim, Room, LIMIT};
 use crate::model::bundle::MAGIC_BYTES;
-use crate::model::id::{canonical, meaning_by, Reading};
+use crate::model::id::{canonical, meaning_by, same_target, Reading};
 use crate::model::*;
 use crate::samples;
 
@@ -25,6 +25,14 @@ impl Offset {
         match self {
             Offset::AfterTable(start) => table_end + start,
             Offset::Exactly(offset) => offset,
+        }
+    }
+
+    /// So many bytes later, where it counts from the table end.
+    pub(super) fn later(self, count: u64) -> Offset {
+        match self {
+            Offset::AfterTable(start) => Offset::AfterTable(start + count),
+            exactly => exactly,
         }
     }
 }
@@ -74,17 +82,17 @@ impl Row {
         Row { meaning, id_length: id.len() as u64, id, offset: Offset::AfterTable(image.start), size: image.size }
     }
 
-    fn set_id(&mut self, id: Vec<u8>) {
+    pub(super) fn set_id(&mut self, id: Vec<u8>) {
         self.id_length = id.len() as u64;
         self.id = id;
     }
 
-    fn set_image(&mut self, offset: u64, size: u64) {
+    pub(super) fn set_image(&mut self, offset: u64, size: u64) {
         self.offset = Offset::Exactly(offset);
         self.size = size;
     }
 
-    fn set_span(&mut self, span: Span) {
+    pub(super) fn set_span(&mut self, span: Span) {
         self.offset = Offset::AfterTable(span.start);
         self.size = span.size;
     }
@@ -227,6 +235,26 @@ impl Draft {
         self.rows[at].set_id(id);
     }
 
+    /// No entry for this kind, triple and processor.
+    pub(super) fn drop_target(&mut self, meaning: &Meaning) {
+        self.rows.retain(|row| !same_target(&row.meaning, meaning));
+        self.count = self.rows.len() as u64;
+    }
+
+    /// Each ID in any spelling of its meaning.
+    pub fn respell(&mut self, random: &mut Random) {
+        for row in &mut self.rows {
+            row.set_id(ids::spelled(self.reading, random, &row.meaning));
+        }
+    }
+
+    /// Each meaning with its kind in either spelling.
+    pub fn respell_kinds(&mut self, random: &mut Random) {
+        for row in &mut self.rows {
+            row.meaning = ids::either_spelling(random, row.meaning.clone());
+        }
+    }
+
     /// No image, and nothing after the table.
     fn drop_images(&mut self) {
         self.body.clear();
@@ -315,6 +343,16 @@ pub fn aims(reading: Reading) -> Vec<Aim<Draft>> {
     aims
 }
 
+/// What the check refuses by.
+pub const REFUSALS: &[u64] = &[LENGTH, MAGIC, COUNT, TABLE, ID, RANGE, OVERLAP, TWICE, MIXED];
+
+/// Lines of a call that give this number, but for large ones.
+pub fn aims_at(call: &str, number: u64) -> Vec<Aim<Draft>> {
+    let mut aims = aims(Reading::General);
+    aims.retain(|aim| aim.call == call && aim.number == number && !aim.large);
+    aims
+}
+
 type BundleAim = Aim<Draft>;
 
 fn check(number: u64, name: &str, make: fn(&mut Draft, &mut Random)) -> BundleAim {
@@ -355,7 +393,7 @@ fn shape_aims() -> Vec<BundleAim> {
 }
 
 /// Zero bytes up to a length of the container.
-fn fill_to(draft: &mut Draft, length: usize) {
+pub(super) fn fill_to(draft: &mut Draft, length: usize) {
     draft.zeros = length - draft.table_end() as usize - draft.body.len();
 }
 

@@ -217,7 +217,7 @@ pub fn aims() -> Vec<EachAim> {
         draft.ask_only(random, &[QUERY; 4]);
         draft.room = Room::Short(1);
     }));
-    aims.extend(REFUSALS.iter().flat_map(|number| refused_container(*number)));
+    aims.extend(bundles::REFUSALS.iter().flat_map(|number| refused_container(*number)));
     aims.extend([OK, QUERY, NONE].map(as_single));
     aims.extend(parts::aims());
     aims.extend(taken::aims());
@@ -269,8 +269,6 @@ fn so_many(&(number, names, room): &(u64, usize, Room)) -> EachAim {
     })
 }
 
-const REFUSALS: &[u64] = &[LENGTH, MAGIC, COUNT, TABLE, ID, RANGE, OVERLAP, TWICE, MIXED];
-
 type Change = fn(&mut Draft, &mut Random);
 
 /// What would be refused too, if the container were not.
@@ -290,7 +288,7 @@ const BESIDE: &[(&str, Change)] = &[
 
 /// A container at any line that gives this refusal, alone and with what comes after it.
 fn refused_container(number: u64) -> Vec<EachAim> {
-    let damages = Rc::new(bundle_aims("check", number));
+    let damages = Rc::new(bundles::aims_at("check", number));
     let beside = |&(name, change): &(&str, Change)| {
         let damages = Rc::clone(&damages);
         Aim::new(CALL, number, &format!("container of number {number}{name}"), move |draft: &mut Draft, random| {
@@ -303,7 +301,7 @@ fn refused_container(number: u64) -> Vec<EachAim> {
 
 /// A name at any line of the single pick that gives this number.
 fn as_single(number: u64) -> EachAim {
-    let lines = bundle_aims("pick", number);
+    let lines = bundles::aims_at("pick", number);
     let name = format!("any line of the single pick, number {number}");
     Aim::new(SLOT, number, &name, move |draft: &mut Draft, random| {
         (random.choose(&lines).make)(&mut draft.bundle, random);
@@ -311,11 +309,4 @@ fn as_single(number: u64) -> EachAim {
         let part = draft.put_text(random, &device);
         draft.ask(random, part);
     })
-}
-
-/// What aims at a number of a call that is given one bundle, and is not large.
-fn bundle_aims(call: &str, number: u64) -> Vec<Aim<bundles::Draft>> {
-    let mut aims = bundles::aims(Reading::General);
-    aims.retain(|aim| aim.call == call && aim.number == number && !aim.large);
-    aims
 }

@@ -1,7 +1,7 @@
-//! The examples of RULES B, B.1 to B.13, B.16 and B.17, processors with hyphens, our own cards, and several device names, as cases.
-//! `model/examples.rs` says what comes of them.
+//! The examples of RULES B, B.1 to B.13, B.16 and B.17, processors with hyphens, our own cards, several device names, and two bundles, as
+//! cases. `model/examples.rs` says what comes of them.
 
-use super::{binaries, bundles, each, Room};
+use super::{binaries, bundles, each, lookup, Room};
 use crate::model::binary_writer::{write_binary, Content, PairParts};
 use crate::model::bundle::packed;
 use crate::model::each::Part;
@@ -60,6 +60,7 @@ pub fn at_the_length(size: u64) -> Vec<u8> {
 }
 
 pub const HOST: &str = "host-x86_64-unknown-linux-gnu";
+pub const HOST_FORM: &str = "host-x86_64-unknown-linux-gnu-";
 pub const SHUFFLED: &str = "hip-amdgcn-amd-amdhsa-gfx906:xnack+:sramecc-";
 pub const IN_ORDER: &str = "hip-amdgcn-amd-amdhsa--gfx906:sramecc-:xnack+";
 pub const PLAIN: &str = "hip-amdgcn-amd-amdhsa-gfx906";
@@ -264,6 +265,39 @@ pub fn each_cases() -> Vec<each::Case> {
         ask_parts(three_entries(), PLAIN, &[(0, plain), (0, plain + 1), (1, plain), (plain, 0), (u64::MAX, 1)]),
         ask_parts(three_entries(), "", &[(0, 0), (0, 1), (1, 0), (1 << 63, 1 << 63)]),
     ]
+}
+
+/// Bundles that are accepted and refused, each of them a patch before each.
+fn lookup_bundles() -> Vec<Vec<u8>> {
+    vec![
+        Vec::new(),
+        bundle(&[]),
+        bundle(&[(HOST_FORM, b"12345")]),
+        bundle(&[(HOST, b"")]),
+        bundle(&[(PLAIN, b"abc"), (HOST, b"other")]),
+        bundle(&[(PLAIN_V4, b"")]),
+        bundle(&[(XNACK_OFF, b"off"), (XNACK_ON_V4, b"on")]),
+        bundle(&[(PLAIN, b""), (XNACK_ON, b"")]),
+        bundle(&[(HOST, b""), (PLAIN, b""), (PLAIN_V4, b"")]),
+        bundle(&[(HOST, b""), (NO_PROCESSOR, b"")]),
+        lying(&[(0, 5), (4, 5)]),
+        with_field(bundle(&[(PLAIN, b"123")]), 48, u64::MAX),
+        at_the_length(1),
+        many(64),
+        many(65),
+    ]
+}
+
+pub fn lookup_cases() -> Vec<lookup::Case> {
+    let devices = [HOST, PLAIN, PLAIN_V4, XNACK_OFF, BOTH_STATED, "hip-a-b-c-e63", NO_PROCESSOR, ""];
+    let mut cases = Vec::new();
+    for patch in lookup_bundles() {
+        for main in lookup_bundles() {
+            let case = |device: &&str| lookup::case_of(patch.clone(), main.clone(), device.as_bytes());
+            cases.extend(devices.iter().map(case));
+        }
+    }
+    cases
 }
 
 /// The kinds, flags and string pair of the binary with `arch`/`sm_70`; its strings and its image follow.

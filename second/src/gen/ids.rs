@@ -111,6 +111,12 @@ pub fn change_kind(meaning: &mut Meaning, random: &mut Random) {
     meaning.kind = choose(random, &others);
 }
 
+/// An ID of one of these kinds, whose target no other entry has: it is short, and has a processor and no feature.
+pub fn own(random: &mut Random, kinds: &[&str]) -> String {
+    let kind = *random.choose(kinds);
+    format!("{kind}-own-b-c-gfx{}", random.below(1000))
+}
+
 /// So many different feature names.
 pub fn feature_names(random: &mut Random, count: usize) -> Vec<Text<'static>> {
     let mut names = Vec::new();

@@ -151,14 +151,18 @@ pub fn pick_of(reading: Reading, entries: &Entries, device: &[u8]) -> Picked {
     }
 }
 
-/// The "one compatible entry" of an accepted bundle, with its index.
 fn picked_entry<'a>(reading: Reading, entries: &'a Entries, device: &[u8]) -> Result<(usize, &'a Entry<'a>), Refusal> {
     let entries = entries.as_ref().map_err(|refusal| *refusal)?;
     let device = meaning_by(reading, device).ok_or(Refusal { number: QUERY, place: 0 })?;
+    compatible_entry(entries, &device).ok_or(Refusal { number: NONE, place: 0 })
+}
+
+/// The "one compatible entry" of an accepted bundle, with its index, if it has one.
+pub fn compatible_entry<'e, 'a>(entries: &'e [Entry<'a>], device: &Meaning) -> Option<(usize, &'e Entry<'a>)> {
     let mut found: Vec<(usize, &Entry)> =
-        entries.iter().enumerate().filter(|(_, entry)| compatible(&entry.meaning, &device)).collect();
+        entries.iter().enumerate().filter(|(_, entry)| compatible(&entry.meaning, device)).collect();
     assert!(found.len() <= 1, "an accepted bundle has two entries that are compatible with one device name");
-    found.pop().ok_or(Refusal { number: NONE, place: 0 })
+    found.pop()
 }
 
 /// What the check tries, then 10: the index is not below the count.

@@ -1,7 +1,8 @@
 //! The examples of RULES B, the mistakes of RULES C, `hip` beside `hipv4`, entries by index, images that overlap, processors with hyphens,
-//! our own cards, and several device names.
+//! our own cards, several device names, and two bundles.
 
 mod each;
+mod lookup;
 
 use super::binaries::{read_all, Binary, Pair};
 use super::binary_writer::{write_binary, Content};

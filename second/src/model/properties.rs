@@ -10,11 +10,12 @@ use super::id::{
     begins_a_processor, canonical, compatible, meaning, meaning_by, mixed, own_processor, same_meaning, Meaning,
     Reading,
 };
+use super::lookup::{lookup as lookup_in, LookedUp, MAIN, NEITHER, PATCH};
 use super::processors::known;
 use super::*;
 use crate::gen::bundles::{some_count, Draft, Offset, Row};
 use crate::gen::random::Random;
-use crate::gen::{binary_contents, each, ids, records};
+use crate::gen::{binary_contents, each, ids, lookup, records};
 use std::collections::{BTreeMap, BTreeSet};
 
 const CASES: u64 = 3000;
@@ -215,6 +216,90 @@ fn each_slot_is_a_pick_and_each_bit_an_entry_that_some_slot_has() {
     });
 }
 
+/// What a pick returns, as an answer of the bundle of this number.
+fn as_looked_up(bundle: u64, picked: Picked) -> LookedUp {
+    let Picked { number, place, position, size, .. } = picked;
+    let is_named = ![QUERY, NONE].contains(&number);
+    LookedUp { number, place, bundle: if is_named { bundle } else { NEITHER }, position, size }
+}
+
+/// Two bundles and a device name, sometimes with damage.
+fn some_lookup(random: &mut Random) -> (Vec<u8>, Vec<u8>, Vec<u8>) {
+    let mut case = lookup::some_draft(random).case();
+    if random.one_in(3) {
+        lookup::shake(&mut case, random);
+    }
+    if random.one_in(8) {
+        case.device = ids::some_broken(random);
+    }
+    (case.patch, case.main, case.device)
+}
+
+#[test]
+fn a_lookup_is_the_first_pick_that_is_not_none() {
+    each_case(|random| {
+        let (patch, main, device) = some_lookup(random);
+        let [of_patch, of_main] = [&patch, &main].map(|bundle| pick(Reading::General, bundle, &device));
+        let expected = match (of_patch.number, of_main.number) {
+            // Main is checked where the patch answers too.
+            (OK, OK | NONE) | (QUERY, QUERY) => as_looked_up(PATCH, of_patch),
+            (OK | QUERY | NONE, _) => as_looked_up(MAIN, of_main),
+            _ => as_looked_up(PATCH, of_patch),
+        };
+        assert_eq!(lookup_in(&patch, &main, &device).0, expected);
+    });
+}
+
+#[test]
+fn a_lookup_hands_back_the_part_that_it_names_and_an_empty_one_where_it_is_refused() {
+    each_case(|random| {
+        let (patch, main, device) = some_lookup(random);
+        let (found, image) = lookup_in(&patch, &main, &device);
+        let bundle = if found.bundle == PATCH { &patch } else { &main };
+        match found.number {
+            OK => assert!(std::ptr::eq(image, part(bundle, found.position, found.size).unwrap())),
+            _ => assert_eq!((image, found.position, found.size), (&b""[..], 0, 0)),
+        }
+    });
+}
+
+#[test]
+fn a_lookup_beside_no_entries_is_a_pick() {
+    let none = Draft::good(Reading::General, &mut Random::of_case(2, 0), 0).bytes();
+    each_case(|random| {
+        let (bundle, _, device) = some_lookup(random);
+        let picked = pick(Reading::General, &bundle, &device);
+        assert_eq!(lookup_in(&none, &bundle, &device).0, as_looked_up(MAIN, picked));
+        assert_eq!(lookup_in(&bundle, &none, &device).0, as_looked_up(PATCH, picked));
+        assert_eq!(lookup_in(&bundle, &bundle, &device).0, as_looked_up(PATCH, picked));
+    });
+}
+
+#[test]
+fn two_bundles_exchanged_are_refused_alike_and_say_none_alike() {
+    each_case(|random| {
+        let (patch, main, device) = some_lookup(random);
+        let (found, exchanged) = (lookup_in(&patch, &main, &device).0, lookup_in(&main, &patch, &device).0);
+        assert_eq!(found.number == OK, exchanged.number == OK);
+        assert_eq!(found.bundle == NEITHER, exchanged.bundle == NEITHER);
+        if found.bundle == NEITHER {
+            assert_eq!(found, exchanged);
+        }
+    });
+}
+
+#[test]
+fn what_follows_the_tables_changes_no_lookup() {
+    each_case(|random| {
+        let mut draft = lookup::some_draft(random);
+        let answer = |draft: &lookup::Draft| lookup_in(&draft.patch.bytes(), &draft.main.bytes(), &draft.device).0;
+        let found = answer(&draft);
+        draft.patch.body = random.bytes(draft.patch.body.len());
+        draft.main.body = random.bytes(draft.main.body.len());
+        assert_eq!(answer(&draft), found);
+    });
+}
+
 #[test]
 fn normal_form_is_accepted_and_its_own() {
     each_reading(|reading, random| {
@@ -256,29 +341,14 @@ fn normal_forms_are_equal_exactly_when_the_entries_are() {
             other.body[at] ^= 1;
         }
         if random.one_in(3) {
-            respell_kinds(random, &mut other);
+            other.respell_kinds(random);
         }
-        respell(random, &mut one);
-        respell(random, &mut other);
+        one.respell(random);
+        other.respell(random);
         let (one, other) = (one.bytes(), other.bytes());
         let equal = normal_form(reading, &one) == normal_form(reading, &other);
         assert_eq!(equal, same_entries(reading, &one, &other));
     });
-}
-
-/// Each meaning with its kind in either spelling.
-fn respell_kinds(random: &mut Random, draft: &mut Draft) {
-    for row in &mut draft.rows {
-        row.meaning = ids::either_spelling(random, row.meaning.clone());
-    }
-}
-
-/// Each ID in any spelling of its meaning.
-fn respell(random: &mut Random, draft: &mut Draft) {
-    for row in &mut draft.rows {
-        row.id = ids::spelled(draft.reading, random, &row.meaning);
-        row.id_length = row.id.len() as u64;
-    }
 }
 
 #[test]
@@ -286,8 +356,8 @@ fn the_spelling_of_a_kind_shows_in_the_normal_form_alone() {
     each_reading(|reading, random| {
         let one = some_bundle(reading, random);
         let mut other = one.clone();
-        respell_kinds(random, &mut other);
-        respell(random, &mut other);
+        other.respell_kinds(random);
+        other.respell(random);
         let (bundle, respelled) = (one.bytes(), other.bytes());
         assert_eq!(check(reading, &bundle), check(reading, &respelled));
         let [picked, again] = [&bundle, &respelled].map(|bundle| pick(reading, bundle, &one.device));
@@ -336,7 +406,7 @@ fn the_name_of_a_card_changes_no_answer_of_the_profile() {
     each_case(|random| {
         let one = some_bundle(Reading::Profile, random);
         let mut other = one.clone();
-        respell(random, &mut other);
+        other.respell(random);
         let (bundle, respelled) = (one.bytes(), other.bytes());
         let [picked, again] = [&bundle, &respelled].map(|bundle| pick(Reading::Profile, bundle, &one.device));
         assert_eq!((picked.number, picked.index, picked.size), (again.number, again.index, again.size));

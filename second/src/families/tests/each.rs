@@ -12,13 +12,7 @@ use std::collections::BTreeSet;
 
 #[test]
 fn several_names_meet_every_line_in_any_run_and_nearly_each_time() {
-    let mut family = Each::new(MODEL_EACH);
-    family.run_fixed().unwrap();
-    assert_eq!(family.report().missing_lines(), Vec::<String>::new());
-    run_generated(&mut family, 6000).unwrap();
-    for AimTally { name, tried, met, .. } in &family.report().aims {
-        assert!(10 * met >= 8 * tried, "{name}: {met} of {tried}");
-    }
+    meets_every_line_in_any_run(Each::new(MODEL_EACH));
 }
 
 #[test]

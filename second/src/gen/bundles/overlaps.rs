@@ -51,9 +51,8 @@ impl Draft {
         let place = *random.choose(&places);
         self.body.splice(place as usize..place as usize, random.bytes(count));
         for row in &mut self.rows {
-            match &mut row.offset {
-                Offset::AfterTable(start) if *start >= place => *start += count as u64,
-                _ => {}
+            if matches!(row.offset, Offset::AfterTable(start) if start >= place) {
+                row.offset = row.offset.later(count as u64);
             }
         }
         place
@@ -67,8 +66,13 @@ impl Draft {
         }
     }
 
+    /// An image of so many bytes of its own.
+    pub(in crate::gen) fn put_image(&mut self, random: &mut Random, row: usize, size: u64) {
+        self.put_images(random, &[row], &[Span { start: 0, size }]);
+    }
+
     /// The images of two rows overlap.
-    fn put_overlap(&mut self, random: &mut Random, rows: [usize; 2]) {
+    pub(in crate::gen) fn put_overlap(&mut self, random: &mut Random, rows: [usize; 2]) {
         let spans = images::overlapping(random);
         self.put_images(random, &rows, &spans);
     }

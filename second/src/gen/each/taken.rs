@@ -116,8 +116,7 @@ impl Draft {
 
 /// An entry of kind `hip` or `hipv4`, which is short.
 fn put_hip(draft: &mut Draft, random: &mut Random) -> usize {
-    let kind = *random.choose(&["hip", "hipv4"]);
-    let id = format!("{kind}-own-b-c-gfx{}:x+", random.below(1000));
+    let id = format!("{}:x+", ids::own(random, &["hip", "hipv4"]));
     draft.bundle.put_meaning(random, ids::meaning_of(id.as_bytes()))
 }
 
