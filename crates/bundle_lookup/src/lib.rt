@@ -8,28 +8,38 @@ ghost use Rattle.bundle_lookup.specs.Answer.{saysNone, isRefused, namedB
 use bundle::Found;
 use bundle::Picked;
 
-// A pick says that there is no image, 10 NONE. One of size 0 is an image.
+// The refusals of a pick that concern no bundle.
+const QUERY: usize = 9;
+
+const NONE: usize = 10;
+
+// The numbers of the two bundles.
+const PATCH: usize = 1;
+
+const MAIN: usize = 2;
+
+// A pick says that there is no image. One of size 0 is an image.
 fn says_none(p: Picked) -> bool
     ensures { λ r. ⌜ r ≡ saysNone (p .number) ⌝ }
 {
-    p.number == 10
+    p.number == NONE
 }
 
-// A pick is refused by what the check of its bundle refuses, and not by 9 QUERY or 10 NONE.
+// A pick is refused by what the check of its bundle refuses, and not by QUERY or NONE.
 fn refused(p: Picked) -> bool
     ensures { λ r. ⌜ r ≡ isRefused (p .number) ⌝ }
 {
-    (p.number != 0) & (p.number != 9) & (p.number != 10)
+    (p.number != 0) & (p.number != QUERY) & (p.number != NONE)
 }
 
-// The bundle that an answer names, of a pick from this bundle: 9 QUERY and 10 NONE name none.
+// The bundle that an answer names, of a pick from this bundle: QUERY and NONE name none.
 fn named(number: usize, bundle: usize) -> usize
     ensures { λ r. ⌜ r ≡ namedBy number bundle ⌝ }
 {
-    if number == 9 {
+    if number == QUERY {
         return 0;
     }
-    if number == 10 {
+    if number == NONE {
         return 0;
     }
     bundle
@@ -55,15 +65,15 @@ fn decide(p: Picked, q: Picked) -> Found
     ensures { λ r. ⌜ r ≡ decided p q ⌝ }
 {
     if refused(p) {
-        return answer_of(p, 1);
+        return answer_of(p, PATCH);
     }
     if refused(q) | says_none(p) {
-        return answer_of(q, 2);
+        return answer_of(q, MAIN);
     }
-    answer_of(p, 1)
+    answer_of(p, PATCH)
 }
 
-// The image for a device name: the bundle that holds it, 1 the patch, 2 the main one, and where it lies there. Each bundle is checked once, and the name is
+// The image for a device name: the bundle that holds it, and where it lies there. Each bundle is checked once, and the name is
 // made canonical once.
 pub fn find_image(patch: &[u8], main: &[u8], device: &[u8]) -> Found
     ensures { λ r. ⌜ r ≡ lookup idRules (now (patch .entry)) (now (main .entry)) (now (device .entry)) ⌝ }
@@ -74,6 +84,7 @@ pub fn find_image(patch: &[u8], main: &[u8], device: &[u8]) -> Found
     decide(p, q)
 }
 
+// `size` bytes of s from `start` on.
 fn part(s: &[u8], start: usize, size: usize) -> &[u8]
     requires { ⌜ start + size ≤ length (now s) ⌝ }
     ensures { λ r. ⌜ now r ≡ take size (drop start (now (s .entry))) ⌝ }
@@ -89,10 +100,10 @@ fn part_of<'a>(patch: &'a [u8], main: &'a [u8], f: Found) -> &'a [u8]
     let bundle = f.bundle;
     let start = f.position as usize;
     let size = f.size as usize;
-    if bundle == 1 {
+    if bundle == PATCH {
         return part(patch, start, size);
     }
-    if bundle == 2 {
+    if bundle == MAIN {
         return part(main, start, size);
     }
     &main[..0]
