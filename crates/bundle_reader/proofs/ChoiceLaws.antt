@@ -58,13 +58,6 @@ module _ (R : IdRules) (L : Lawful R) (s texts₀ lens₀ keys₀ texts lens key
   pub known : Known R s texts lens keys c
   known = record { stop-is = stop-is; pickable = pickable }
 
--- ---- scratch that was lent keeps its room
-
-pub room-kept : (n : ℕ) (texts lens keys texts₁ lens₁ keys₁ : List ℕ) → length texts₁ ≡ length texts → length lens₁ ≡ length lens → length keys₁ ≡ length keys
-    → Room n texts lens keys → Room n texts₁ lens₁ keys₁
-room-kept n texts lens keys texts₁ lens₁ keys₁ t l k r =
-    record { texts-room = omega (arith, r .texts-room, t); lens-room = omega (arith, r .lens-room, l); keys-room = omega (arith, r .keys-room, k) }
-
 -- ---- the pick then
 
 pub picked-stop : (R : IdRules) (s device : List ℕ) (t : Stop) → t ≡ bundleStop R s → 0 < t .number → refusal (t .number) (t .place) ≡ pick R s device
@@ -152,7 +145,7 @@ module _ (R : IdRules) (s texts lens keys : List ℕ) (n : ℕ) (p : Pickable R 
     index-is : r .index ≡ pick R s device .index
     index-is = ap (λ (z : Choice). z .index) (e ∙ choice-is)
 
-    pub choice-refused : 0 < r .number → refusal (r .number) 0 ≡ pick R s device
+    choice-refused : 0 < r .number → refusal (r .number) 0 ≡ pick R s device
     unfolding pick
     choice-refused h = cases (r .number) refl
       where
@@ -173,20 +166,20 @@ module _ (R : IdRules) (s texts lens keys : List ℕ) (n : ℕ) (p : Pickable R 
       choice-lt = omega (arith, index-is, picked-lt R s device (sym number-is ∙ z), p .count-is)
 
       -- the row of the entry, as it is read
-      pub choice-image : (q : EntryRecord) → q ≡ heldRow s (rowStart s (r .index))
+      choice-image : (q : EntryRecord) → q ≡ heldRow s (rowStart s (r .index))
           → record { number = 0; place = 0; index = r .index; position = q .«image_start»; size = q .«image_len» } ≡ pick R s device
       unfolding rowOf
       choice-image q w =
           ap (λ x. record { number = 0; place = 0; index = r .index; position = x .offset; size = x .size }) (row-is s (r .index) _ refl q w)
           ∙ sym image-is
 
-    -- the pick that it gives
-    pub choice-pick : choicePick r (heldRow s (rowStart s (r .index))) ≡ pick R s device
-    choice-pick = cases (r .number) refl
+    -- the pick that it gives, where there is a row to read
+    pub choice-pick : (q : EntryRecord) → (r .number ≡ 0 → q ≡ heldRow s (rowStart s (r .index))) → choicePick r q ≡ pick R s device
+    choice-pick q w = cases (r .number) refl
       where
-        cases : (k : ℕ) → r .number ≡ k → choicePick r (heldRow s (rowStart s (r .index))) ≡ pick R s device
-        cases zero z = choicePick-image r _ z ∙ choice-image z (heldRow s (rowStart s (r .index))) refl
-        cases (suc k) z = choicePick-stop r _ k z ∙ choice-refused (omega arith)
+        cases : (k : ℕ) → r .number ≡ k → choicePick r q ≡ pick R s device
+        cases zero z = choicePick-image r q z ∙ choice-image z q (w z)
+        cases (suc k) z = choicePick-stop r q k z ∙ choice-refused (omega arith)
 
     -- the rows up to it fit
     pub choice-fits : r .number ≡ 0 → (k : ℕ) → k ≤ r .index → RowFits s (rowStart s k)

@@ -28,16 +28,15 @@ use Rattle.bundle.specs.Pick.{pick}
 use Rattle.bundle.specs.Normal.{over, output}
 use Rattle.bundle.specs.Each.{startOf, lengthOf, partOf, slotOf, took, pickAt, taken, noPicks, eachStop, pickEach, slotsAfter, Slotted}
 use Rattle.bundle.specs.Table.{rowStart}
-use Rattle.bundle.specs.declared.EntryRecord.{EntryRecord}
 use Rattle.bundle.specs.declared.PickedEach.{PickedEach}
 use Rattle.bundle.specs.declared.Checked.{Checked}
 use Rattle.bundle.proofs.NormalLaws.{over-tab, length-over}
 use Rattle.bundle.proofs.EachLaws.{refused-by, each-is, each-kept, each-goes}
 use Rattle.bundle_reader.specs.Examined.{heldRow}
-use Rattle.bundle_reader.specs.Slots.{startsIn, Pickable, choice, choiceSlot, takes}
+use Rattle.bundle_reader.specs.Slots.{startsIn, Pickable, choice, choicePick, takes}
 use Rattle.bundle_reader.specs.declared.Choice.{Choice}
 use Rattle.bundle_reader.proofs.SlotLaws.{filled-at, filled-more, any-more}
-use Rattle.bundle_reader.proofs.ChoiceLaws.{choice-is, choice-lt, choice-refused, choice-image}
+use Rattle.bundle_reader.proofs.ChoiceLaws.{choice-is, choice-lt, choice-pick}
 
 -- ---- a part of a buffer
 
@@ -78,19 +77,6 @@ module _ (c : Choice) where
       ∙ one-mul (2 ^ c .index)
       ∙ sym (bits-same 64 (takes c) (eqb (c .index)) (λ i l. ap (λ t. t && eqb (c .index) i) (eq-eqb (c .number) 0 z)) ∙ bits-one 64 (c .index) h)
 
-  module _ (r : EntryRecord) where
-    pub slot-refused : 0 < c .number → c .number ∷ 0 ∷ 0 ∷ 0 ∷ [] ≡ choiceSlot c r
-    unfolding choiceSlot
-    slot-refused h = cases (c .number) refl
-      where
-        cases : (k : ℕ) → c .number ≡ k → c .number ∷ 0 ∷ 0 ∷ 0 ∷ [] ≡ choiceSlot c r
-        cases zero z = absurd (omega arith)
-        cases (suc k) z = rw z
-
-    pub slot-chosen : c .number ≡ 0 → 0 ∷ c .index ∷ r .«image_start» ∷ r .«image_len» ∷ [] ≡ choiceSlot c r
-    unfolding choiceSlot
-    slot-chosen z = rw z
-
 -- from an accepted bundle: its bit and its slot are those of the pick
 module _ (R : IdRules) (s texts lens keys : List ℕ) (n : ℕ) (p : Pickable R s texts lens keys n) (device : List ℕ) (c : Choice) (e : c ≡ choice R texts lens n device) where
   pub choice-taken : bitsBelow 64 (takes c) ≡ bitsBelow 64 (took (pick R s device))
@@ -107,15 +93,8 @@ module _ (R : IdRules) (s texts lens keys : List ℕ) (n : ℕ) (p : Pickable R 
     pub choice-row : c .number ≡ 0 → RowFits s (getD starts (c .index) 0)
     choice-row z = rw (start-is z) (p .sound .frame .rows (c .index) (omega (arith, p .count-is, choice-lt R s texts lens keys n p device c e z)))
 
-    pub choice-slot : choiceSlot c (heldRow s (getD starts (c .index) 0)) ≡ slotOf (pick R s device)
-    unfolding slotOf
-    choice-slot = cases (c .number) refl
-      where
-        cases : (k : ℕ) → c .number ≡ k → choiceSlot c (heldRow s (getD starts (c .index) 0)) ≡ slotOf (pick R s device)
-        cases zero z =
-            sym (slot-chosen c (heldRow s (getD starts (c .index) 0)) z)
-            ∙ ap slotOf (choice-image R s texts lens keys n p device c e z (heldRow s (getD starts (c .index) 0)) (ap (heldRow s) (start-is z)))
-        cases (suc k) z = sym (slot-refused c (heldRow s (getD starts (c .index) 0)) (omega arith)) ∙ ap slotOf (choice-refused R s texts lens keys n p device c e (omega arith))
+    pub choice-slot : slotOf (choicePick c (heldRow s (getD starts (c .index) 0))) ≡ slotOf (pick R s device)
+    choice-slot = ap slotOf (choice-pick R s texts lens keys n p device c e (heldRow s (getD starts (c .index) 0)) (λ z. ap (heldRow s) (start-is z)))
 
 -- one start more
 pub starts-more : (s : List ℕ) (i at : ℕ) (starts : List ℕ) → at ≡ rowStart s i → starts ≡ startsIn s i → set starts i at ≡ startsIn s (i + 1)

@@ -127,6 +127,12 @@ module _ (R : IdRules) (L : Lawful R) (rows : ℕ → Row) (m : ℕ) (texts₀ l
 pub room-less : (m n : ℕ) (texts lens keys : List ℕ) → n ≤ m → Room m texts lens keys → Room n texts lens keys
 room-less m n texts lens keys h r = record { texts-room = omega (arith, r .texts-room); lens-room = omega (arith, r .lens-room); keys-room = omega (arith, r .keys-room) }
 
+-- scratch that keeps its length keeps its room
+pub room-kept : (n : ℕ) (texts lens keys texts₁ lens₁ keys₁ : List ℕ) → length texts₁ ≡ length texts → length lens₁ ≡ length lens → length keys₁ ≡ length keys
+    → Room n texts lens keys → Room n texts₁ lens₁ keys₁
+room-kept n texts lens keys texts₁ lens₁ keys₁ t l k r =
+    record { texts-room = omega (arith, r .texts-room, t); lens-room = omega (arith, r .lens-room, l); keys-room = omega (arith, r .keys-room, k) }
+
 -- ---- the loop that makes them, at row i
 
 module _ (R : IdRules) (rows : ℕ → Row) (i : ℕ) (texts₀ lens₀ keys₀ texts lens keys : List ℕ) (f : Formed R rows i texts₀ lens₀ keys₀ texts lens keys) where
@@ -134,11 +140,7 @@ module _ (R : IdRules) (rows : ℕ → Row) (i : ℕ) (texts₀ lens₀ keys₀ 
   formed-lengths = (ap length (f .texts-are) ∙ length-slots texts₀ i (form R rows), ap length (f .lens-are) ∙ length-filled lens₀ i (formLength R rows), ap length (f .keys-are) ∙ length-filled keys₀ i (λ k. headKey (form R rows k)))
 
   pub formed-room : (n : ℕ) → Room n texts₀ lens₀ keys₀ → Room n texts lens keys
-  formed-room n r = record {
-    texts-room = omega (arith, r .texts-room, formed-lengths .0);
-    lens-room = omega (arith, r .lens-room, formed-lengths .1);
-    keys-room = omega (arith, r .keys-room, formed-lengths .2);
-  }
+  formed-room n = room-kept n texts₀ lens₀ keys₀ texts lens keys (formed-lengths .0) (formed-lengths .1) (formed-lengths .2)
 
   -- of the ID of row i its canonical form was made
   module _ (id after : List ℕ) (made : Form) (e : id ≡ rows i .id) (q : made ≡ formOf (R .canon id)) (w : after ≡ overwrite texts (i * 256) (R .canon id)) where

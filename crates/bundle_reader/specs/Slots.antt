@@ -140,10 +140,6 @@ choice R texts lens n device = choiceBy R texts lens n (R .canon device)
 unfoldable pub choicePick : Choice → EntryRecord → Picked
 choicePick c r = elim (c .number) [ zero ↦ record { number = 0; place = 0; index = c .index; position = r .«image_start»; size = r .«image_len» } | suc k ↦ refusal (suc k) 0 ]
 
--- its slot, where r is the row of the entry chosen
-unfoldable pub choiceSlot : Choice → EntryRecord → List ℕ
-choiceSlot c r = elim (c .number) [ zero ↦ 0 ∷ c .index ∷ r .«image_start» ∷ r .«image_len» ∷ [] | suc k ↦ suc k ∷ 0 ∷ 0 ∷ 0 ∷ [] ]
-
 -- it takes entry i
 unfoldable pub takes : Choice → ℕ → Bool
 takes c i = eqb (c .number) 0 && eqb (c .index) i

@@ -12,7 +12,7 @@ ghost use Rattle.bundle.specs.Accepted.{RowFits};
 ghost use Rattle.bundle.specs.Normal.{over};
 ghost use Rattle.bundle.specs.Each.{partOf, slotOf, pickAt, taken, noPicks, pickEach, slotsAfter};
 ghost use Rattle.bundle_reader.specs.Examined.{heldRow};
-ghost use Rattle.bundle_reader.specs.Slots.{startsIn, Room, Pickable, choiceSlot, takes};
+ghost use Rattle.bundle_reader.specs.Slots.{startsIn, Room, Pickable, choicePick, takes};
 use crate::Choice;
 use crate::Refusal;
 use crate::check_in;
@@ -59,7 +59,7 @@ fn row_starts(s: &[u8], n: usize) -> [usize; 64]
 // The slot of a choice; the row of the entry chosen starts at `at`.
 fn slot_of(s: &[u8], chosen: Choice, at: usize) -> [u64; 4]
     requires { ⌜ (chosen .number ≡ 0 → RowFits (now s) at) ⌝ }
-    ensures { λ r. ⌜ r ≡ choiceSlot chosen (heldRow (now (s .entry)) at) ⌝ }
+    ensures { λ r. ⌜ r ≡ slotOf (choicePick chosen (heldRow (now (s .entry)) at)) ⌝ }
 {
     let refusal = chosen.number;
     if 0 < refusal {

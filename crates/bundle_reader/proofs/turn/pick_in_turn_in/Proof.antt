@@ -3,8 +3,9 @@ use Prim.Native.Nat.{ℕ}
 use mathlib.Core.Path.{sym}
 use lib.ListN.{length-replicate}
 use Rattle.entry_id.specs.Rules.{idRules, canonOf, rulesOf}
-use Rattle.bundle_reader.proofs.ChoiceLaws.{room-kept, turn-none, turn-other}
+use Rattle.bundle_reader.proofs.ChoiceLaws.{turn-none, turn-other}
 use Rattle.bundle_reader.proofs.IdLaws.{made-name, name-is, name-fits, name-length, name-named}
+use Rattle.bundle_reader.proofs.SlotLaws.{room-kept}
 use Rattle.bundle_reader.proofs.turn.pick_in_turn_in.Statement.{statement}
 use Rattle.bundle_reader.proofs.turn.pick_in_turn_in.Tie as tie
 
