@@ -32,7 +32,7 @@ SECOND := --offline --manifest-path second/Cargo.toml
 BENCH := $(CARGO) run --release --offline --manifest-path bench/Cargo.toml --
 
 .PHONY: demo test install uninstall clean help tool library harness prove tools
-.PHONY: selftest calls stack compare second-test tool-test example install-test build-test gate-test damage bench order profile each lookup
+.PHONY: selftest calls stack compare second-test tool-test example install-test build-test gate-test damage bench order profile each lookup recover
 
 ## For use
 ##   make               the tool, and the library that it needs
@@ -144,7 +144,8 @@ bench: tools $(TOOL) $(BENCH_CALLS)
 ##   make profile       the calls of the profile beside the general ones, which are timed in the gate too
 ##   make each          one call for several names beside as many for one
 ##   make lookup        a lookup in two bundles beside a pick from each
-order profile each lookup: tools $(LIBRARY) $(BENCH_CALLS)
+##   make recover       offload binaries in damaged and in hostile files
+order profile each lookup recover: tools $(LIBRARY) $(BENCH_CALLS)
 	LLVM_CONFIG= $(BENCH) $@
 
 ##

@@ -72,4 +72,11 @@ struct cursor {
 
 void baseline_next(const uint8_t *bytes, size_t length, struct cursor *cursor, struct binary *read);
 
+struct recovered {
+    uint64_t number, place, length, spans;
+};
+
+struct recovered baseline_recover(const uint8_t *bytes, size_t length, uint8_t *out, size_t room,
+                                  struct part *spans, size_t span_room);
+
 #endif

@@ -1,9 +1,9 @@
-/* The rules for offload binaries laid end to end, in plain C. */
+/* The rules for offload binaries laid end to end, and for recovering them from damaged ones, in plain C. */
 #include "baseline.h"
 
 #include <string.h>
 
-enum { OK = 0, LENGTH = 1, HEAD = 13, SPAN, KIND, STRINGS, IMAGE, MANY, END };
+enum { OK = 0, LENGTH = 1, ROOM = 12, HEAD, SPAN, KIND, STRINGS, IMAGE, MANY, END };
 enum { BINARIES = 64, STRING_LIMIT = 256 };
 static const uint64_t limit = 1073741824;
 static const uint8_t magic_and_version[8] = {0x10, 0xFF, 0x10, 0xAD, 1, 0, 0, 0};
@@ -127,4 +127,74 @@ void baseline_next(const uint8_t *bytes, size_t length, struct cursor *cursor, s
     move_places(read, cursor->at);
     cursor->at += read->size;
     cursor->taken++;
+}
+
+/* What is found and what is skipped, each in rising order, and how many bytes are found. */
+struct search {
+    struct part found[BINARIES], skipped[BINARIES + 1];
+    uint64_t count, spans, copied;
+};
+
+/* The first magic from a position on, or null. Its last byte is looked for, which is rare in most files. */
+static const uint8_t *find_magic(const uint8_t *at, const uint8_t *end) {
+    if (end - at < 32)
+        return NULL;
+    for (at += 3; (at = memchr(at, magic_and_version[3], (size_t)(end - at))) != NULL; at++)
+        if (memcmp(at - 3, magic_and_version, 4) == 0)
+            return at - 3;
+    return NULL;
+}
+
+/* The first binary from a position on, or null. */
+static const uint8_t *find_binary(const uint8_t *at, const uint8_t *end, struct binary *read) {
+    while ((at = find_magic(at, end)) != NULL && read_binary(at, (uint64_t)(end - at), read) != OK)
+        at++;
+    return at;
+}
+
+static void skip(struct search *search, uint64_t from, uint64_t to) {
+    if (from < to)
+        search->skipped[search->spans++] = (struct part){from, to - from};
+}
+
+/* 18: the place of the 65th binary, or 0 where there are no more than 64. */
+static uint64_t find_all(const uint8_t *bytes, size_t length, struct search *search) {
+    const uint8_t *end = bytes + length, *at = bytes, *binary;
+    struct binary read;
+    while ((binary = find_binary(at, end, &read)) != NULL) {
+        uint64_t first = (uint64_t)(binary - bytes);
+        if (search->count == BINARIES)
+            return first;
+        skip(search, (uint64_t)(at - bytes), first);
+        search->found[search->count++] = (struct part){first, read.size};
+        search->copied += read.size;
+        at = binary + read.size;
+    }
+    skip(search, (uint64_t)(at - bytes), length);
+    return 0;
+}
+
+static void write_found(const uint8_t *bytes, const struct search *search, uint8_t *out, struct part *spans) {
+    uint64_t k;
+    for (k = 0; k < search->count; k++) {
+        memcpy(out, bytes + search->found[k].start, search->found[k].length);
+        out += search->found[k].length;
+    }
+    memcpy(spans, search->skipped, search->spans * sizeof *spans);
+}
+
+struct recovered baseline_recover(const uint8_t *bytes, size_t length, uint8_t *out, size_t room,
+                                  struct part *spans, size_t span_room) {
+    struct search search;
+    uint64_t many;
+    search.count = search.spans = search.copied = 0;
+    if (length > limit)
+        return (struct recovered){LENGTH, 0, 0, 0};
+    many = find_all(bytes, length, &search);
+    if (many != 0)
+        return (struct recovered){MANY, many, 0, 0};
+    if (search.copied > room || search.spans > span_room)
+        return (struct recovered){ROOM, 0, 0, 0};
+    write_found(bytes, &search, out, spans);
+    return (struct recovered){OK, 0, search.copied, search.spans};
 }

@@ -1,10 +1,11 @@
 #!/usr/bin/env bash
-# Shows what the tool does with a real bundle: examples/demo.sh OFFLOAD
+# Shows what the tool does with a real bundle, and with damaged offload binaries: examples/demo.sh OFFLOAD
 set -eu
 offload=$(realpath "$1")
 cd "$(dirname "$0")/.."
 bundle=samples/bundles/three-cards.bundle
 patch=samples/bundles/driver.bundle
+binaries=samples/binaries/kinds.bin
 work=$(mktemp -d)
 trap 'rm -rf "$work"' EXIT
 
@@ -85,6 +86,15 @@ show pick "$bundle" hip-amdgcn-amd-amdhsa--gfx1030 --json
 echo
 echo "The normal form (entries sorted, images packed, so that equal contents are equal files):"
 echo "$("$offload" check "$work/normal"), and it is its own normal form."
+
+echo
+echo "$binaries was made by clang-offload-packager: four offload binaries, end to end. A bad disk breaks the second."
+echo 'What is whole is saved, and what is skipped is told. The exit status is 5 then, and 0 where nothing is skipped.'
+echo
+cp "$binaries" "$work/damaged.bin"
+printf '\0' | dd of="$work/damaged.bin" bs=1 seek=2208 conv=notrunc status=none
+(cd "$work" && show recover damaged.bin -o sound.bin) || [ $? = 5 ]
+(cd "$work" && show recover sound.bin -o again.bin)
 
 cat <<TEXT
 

@@ -1,16 +1,17 @@
 /* Offload bundles: files that hold GPU images for several devices. Check a bundle, pick the image for a device or for
- * several, from one bundle or from a patch before it, look at each entry, write the bundle's normal form. For x86-64
- * Linux. docs/RULES.md has all rules in full.
+ * several, from one bundle or from a patch before it, look at each entry, write the bundle's normal form. And offload
+ * binaries, which hold one image each: recover them from a damaged file. For x86-64 Linux. docs/RULES.md has all rules
+ * in full.
  *
  * A call takes any bytes: nothing needs to be checked first. Every call returns, reads only what it is given, and only
- * the pick_each calls write, to their slots alone, and the normalise calls, to their output alone. No call allocates
- * memory or keeps anything for the next one; each needs less than 64 KiB of stack. Several threads may use the same
- * bundle at the same time.
+ * these write: the pick_each calls, to their slots alone, the normalise calls, to their output alone, and the recover
+ * calls, to their output and their spans alone. No call allocates memory or keeps anything for the next one; each needs
+ * less than 64 KiB of stack. Several threads may use the same bytes at the same time.
  *
  * The caller is responsible for what no call can see:
  *   - Each length is the true length of what its pointer points to: its bytes or, of a list of structs, its items.
  *   - Pointers must never be null, even when the length is 0.
- *   - An output, such as slots, shares no byte with anything else that is passed.
+ *   - An output, such as slots or spans, shares no byte with anything else that is passed.
  *   - Nobody changes the bytes while a call runs, or between the calls that belong to one answer.
  *
  * A call returns one number, so each number of an answer has a call of its own, which does the whole job. The calls of
@@ -21,9 +22,9 @@
  * writes nothing. Where a call is accepted, the number is OFFLOAD_OK and the place is 0. One entry that breaks the rules
  * refuses the whole bundle, for every device.
  *
- * Each call is proved to return the field of its name in the definition of its family (crates/bundle/specs), by the
- * rules of IDs that are its own (crates/entry_id/specs), and the calls that write to leave in the whole output what the
- * definition says. The inline functions are plain C and not proved.
+ * Each call is proved to return the field of its name in the definition of its family (crates/bundle/specs; of the
+ * recover calls crates/offload_binary/specs), by the rules of IDs that are its own (crates/entry_id/specs), and the calls
+ * that write to leave in the whole output what the definition says. The inline functions are plain C and not proved.
  *
  * The calls with amdgpu in their names, at the end, read some IDs more strictly: by a profile for AMD's GPUs. */
 #ifndef OFFLOAD_H
@@ -45,6 +46,7 @@ extern "C" {
 #define OFFLOAD_ENTRIES 64                 /* most entries in a bundle */
 #define OFFLOAD_ID_LIMIT 256               /* most bytes in an entry ID or a device name */
 #define OFFLOAD_NAMES 16                   /* most device names in one call */
+#define OFFLOAD_BINARIES 64                /* most offload binaries in a sequence */
 
 /* A function of this header: no warning where it is not used. */
 #define OFFLOAD_INLINE static inline __attribute__((unused))
@@ -70,8 +72,8 @@ extern "C" {
  * device name with either gets an entry with either, and a bundle that has one entry in both spellings is refused. Any
  * other two kinds differ. A canonical form, and so a normal form, keeps the kind as it is spelled. */
 
-/* The numbers that calls return. They are tried in this order, 21 after 6 and before 7, 23 after 8 and before 12: the
- * first that applies is returned. */
+/* The numbers that calls return. They are tried in this order, 21 after 6 and before 7, 23 after 8 and before 12, 18
+ * before 12: the first that applies is returned. */
 enum offload_number {
     OFFLOAD_OK = 0,       /* accepted */
     OFFLOAD_LENGTH = 1,   /* the container is longer than OFFLOAD_LIMIT bytes */
@@ -89,14 +91,14 @@ enum offload_number {
     OFFLOAD_BIG = 11,     /* the output would be longer than OFFLOAD_LIMIT bytes */
     OFFLOAD_ROOM = 12,    /* the output does not fit into the memory given for it */
 
-    /* Of offload binaries, where END and MANY are tried first. No call below returns these numbers: offload binaries
-     * are read and written from Rattle. */
+    /* Of offload binaries, where END and MANY are tried first. Of these numbers the calls below return OFFLOAD_MANY
+     * alone: offload binaries are read one by one, and written, from Rattle. */
     OFFLOAD_HEAD = 13,    /* under 32 bytes left, the first four differ, or the version is not 1 */
     OFFLOAD_SPAN = 14,    /* the size or the entry does not fit into the bytes that are left */
     OFFLOAD_KIND = 15,    /* image kind above 5, or offload kind above 3 */
     OFFLOAD_STRINGS = 16, /* the string pairs break the rules */
     OFFLOAD_IMAGE = 17,   /* the image starts inside the header or ends after the end of the binary */
-    OFFLOAD_MANY = 18,    /* bytes remain after the 64th binary */
+    OFFLOAD_MANY = 18,    /* bytes remain after the 64th binary; where binaries are recovered, a 65th is found */
     OFFLOAD_END = 19      /* every binary has been read */
 };
 
@@ -338,6 +340,50 @@ OFFLOAD_INLINE struct offload_normalise_answer offload_normalise(const uint8_t *
         answer.number = offload_normalise_number(bundle, bundle_length, out, out_length);
         answer.place = offload_normalise_place(bundle, bundle_length, out, out_length);
     }
+    return answer;
+}
+
+/* Recover the offload binaries of a damaged sequence. A sequence is binaries laid end to end, as LLVM's
+ * clang-offload-packager writes them: where one is broken, nothing behind it can be read in order. The call takes,
+ * from the first byte on, the lowest position at which a whole binary stands, copies it to out, goes on behind it, and
+ * so on to the end. What lies between is skipped, and reported. A whole binary is one that none of 13 to 17 refuses.
+ *
+ * A sequence that is not damaged comes out unchanged, and nothing is skipped. What comes out is always a sequence that
+ * is not damaged, of at most OFFLOAD_BINARIES binaries, or of none. A binary that was damaged in its image alone is
+ * not told from a whole one: images are not looked into. Bytes inside a damaged binary that are a whole binary
+ * themselves, as where an image is offload binaries in its turn, are found like any other.
+ * number: OFFLOAD_OK or, tried in this order, OFFLOAD_LENGTH, OFFLOAD_MANY where a 65th binary is found, OFFLOAD_ROOM
+ *   where the binaries or the spans do not fit.
+ * place: for OFFLOAD_MANY the first byte of the 65th binary, else 0.
+ * length: how many bytes are written at the start of out; what lies beyond is unchanged.
+ * spans: how many spans are written, from the first on; what lies beyond is unchanged. Each is an unbroken part of
+ *   binaries that was skipped, none is empty, and they rise. Bytes copied and bytes skipped are all there are.
+ *
+ * Room: always enough are binaries_length bytes and OFFLOAD_BINARIES + 1 spans. */
+uint64_t offload_recover_number(const uint8_t *binaries, size_t binaries_length, uint8_t *out, size_t out_length,
+                                struct offload_part *spans, size_t span_count);
+uint64_t offload_recover_place(const uint8_t *binaries, size_t binaries_length, uint8_t *out, size_t out_length,
+                               struct offload_part *spans, size_t span_count);
+uint64_t offload_recover_length(const uint8_t *binaries, size_t binaries_length, uint8_t *out, size_t out_length,
+                                struct offload_part *spans, size_t span_count);
+uint64_t offload_recover_spans(const uint8_t *binaries, size_t binaries_length, uint8_t *out, size_t out_length,
+                               struct offload_part *spans, size_t span_count);
+
+struct offload_recover_answer {
+    uint64_t number, place, length, spans;
+};
+
+OFFLOAD_INLINE struct offload_recover_answer offload_recover(const uint8_t *binaries, size_t binaries_length,
+                                                             uint8_t *out, size_t out_length,
+                                                             struct offload_part *spans, size_t span_count) {
+    struct offload_recover_answer answer = {0, 0, 0, 0};
+    answer.length = offload_recover_length(binaries, binaries_length, out, out_length, spans, span_count);
+    if (answer.length == 0) /* refused, or no binary is found */
+        answer.number = offload_recover_number(binaries, binaries_length, out, out_length, spans, span_count);
+    if (answer.number != OFFLOAD_OK)
+        answer.place = offload_recover_place(binaries, binaries_length, out, out_length, spans, span_count);
+    else if (answer.length < binaries_length) /* something is skipped */
+        answer.spans = offload_recover_spans(binaries, binaries_length, out, out_length, spans, span_count);
     return answer;
 }
 

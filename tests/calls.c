@@ -7,7 +7,7 @@
 #include <stdlib.h>
 #include <string.h>
 
-enum { IMAGE = 5, BODY = 10, SPACE = 8192, OTHER = 7, SLOTS = OFFLOAD_NAMES + 4 };
+enum { IMAGE = 5, BODY = 10, SPACE = 8192, OTHER = 7, SLOTS = OFFLOAD_NAMES + 4, SPANS = OFFLOAD_BINARIES + 4 };
 
 static const char host[] = "host-x86_64-unknown-linux-gnu", card[] = "hip-amdgcn-amd-amdhsa-gfx906:xnack-";
 
@@ -247,6 +247,72 @@ static void normalise(const char *what, const uint8_t *bundle, size_t length, si
     holds(what, out, normal, written);
     expect(what, "normalise_length", by->normalise_length(bundle, length, out, room), written);
     holds(what, out, normal, written);
+}
+
+/* Offload binaries, perhaps damaged: there is room for this many bytes and spans. */
+struct sequence {
+    const uint8_t *bytes;
+    size_t length, room, span_room;
+};
+
+/* What is found in them, end to end, and what is skipped; nothing of either where a call is refused. */
+struct recovery {
+    const uint8_t *binaries;
+    size_t length;
+    const struct offload_part *spans;
+    size_t count;
+};
+
+/* The memory that is lent. */
+struct lent {
+    uint8_t out[SPACE];
+    struct offload_part spans[SPANS];
+};
+
+typedef uint64_t recover_call(const uint8_t *, size_t, uint8_t *, size_t, struct offload_part *, size_t);
+
+static struct lent *fresh_lent(void) {
+    static struct lent lent;
+    memset(&lent, OTHER, sizeof lent);
+    return &lent;
+}
+
+/* What is lent has what is found and skipped, and is otherwise unchanged. */
+static void holds_recovery(const char *what, struct lent *lent, const struct recovery *want) {
+    struct offload_part unchanged;
+    size_t i;
+    memset(&unchanged, OTHER, sizeof unchanged);
+    holds(what, lent->out, want->binaries, want->length);
+    for (i = 0; i < SPANS; i++) {
+        const struct offload_part *part = i < want->count ? &want->spans[i] : &unchanged;
+        expect(what, "span, start", lent->spans[i].start, part->start);
+        expect(what, "span, length", lent->spans[i].length, part->length);
+    }
+}
+
+static void recover_number(const char *what, const char *which, recover_call *call, const struct sequence *sequence, uint64_t number,
+                           const struct recovery *want) {
+    struct lent *lent = fresh_lent();
+    expect(what, which, call(sequence->bytes, sequence->length, lent->out, sequence->room, lent->spans, sequence->span_room), number);
+    holds_recovery(what, lent, want);
+}
+
+static void recover(const char *what, const struct sequence *sequence, uint64_t number, uint64_t place, const struct recovery *want) {
+    static uint8_t before[SPACE];
+    struct lent *lent = fresh_lent();
+    struct offload_recover_answer answer;
+    memcpy(before, sequence->bytes, compared(sequence->length));
+    answer = offload_recover(sequence->bytes, sequence->length, lent->out, sequence->room, lent->spans, sequence->span_room);
+    holds_recovery(what, lent, want);
+    expect(what, "recover, number", answer.number, number);
+    expect(what, "recover, place", answer.place, place);
+    expect(what, "recover, length", answer.length, want->length);
+    expect(what, "recover, spans", answer.spans, want->count);
+    recover_number(what, "recover_number", offload_recover_number, sequence, number, want);
+    recover_number(what, "recover_place", offload_recover_place, sequence, place, want);
+    recover_number(what, "recover_length", offload_recover_length, sequence, want->length, want);
+    recover_number(what, "recover_spans", offload_recover_spans, sequence, want->count, want);
+    expect(what, "recover, bytes read", (uint64_t)memcmp(before, sequence->bytes, compared(sequence->length)), 0);
 }
 
 /* Bundles. */
@@ -934,6 +1000,271 @@ static void two_bundles(void) {
     long_pairs();
 }
 
+/* Offload binaries. */
+
+static const uint8_t no_bytes[1] = {0};
+static const struct recovery nothing = {no_bytes, 0, NULL, 0};
+
+/* With this room the call is refused, and writes nothing. */
+static void refused_recovery(const char *what, const uint8_t *bytes, size_t length, size_t room, size_t span_room, uint64_t number, uint64_t place) {
+    struct sequence sequence = {bytes, length, room, span_room};
+    recover(what, &sequence, number, place, &nothing);
+}
+
+/* The call is accepted with as much room as is needed, and with more; with a byte less, or a span less, it is refused. */
+static void recovers(const char *what, const uint8_t *bytes, size_t length, const struct recovery *want) {
+    struct sequence exact = {bytes, length, want->length, want->count}, more = {bytes, length, SPACE, SPANS};
+    recover(what, &exact, OFFLOAD_OK, 0, want);
+    recover(what, &more, OFFLOAD_OK, 0, want);
+    if (want->length > 0)
+        refused_recovery(what, bytes, length, want->length - 1, SPANS, OFFLOAD_ROOM, 0);
+    if (want->count > 0)
+        refused_recovery(what, bytes, length, SPACE, want->count - 1, OFFLOAD_ROOM, 0);
+}
+
+/* What is found is a sequence that is not damaged, and with what is skipped it is all there is. */
+static void finds(const char *what, const uint8_t *bytes, size_t length, const uint8_t *binaries, size_t found, const struct offload_part *spans,
+                  size_t count) {
+    struct recovery want = {binaries, found, spans, count}, again = {binaries, found, NULL, 0};
+    uint64_t total = found;
+    size_t i;
+    for (i = 0; i < count; i++)
+        total += spans[i].length;
+    expect(what, "bytes found and skipped", total, length);
+    recovers(what, bytes, length, &want);
+    recovers(what, binaries, found, &again);
+}
+
+static void finds_all(const char *what, const uint8_t *bytes, size_t length) {
+    finds(what, bytes, length, bytes, length, NULL, 0);
+}
+
+/* A binary with so many string pairs and an image so long, with the highest kinds. Its size, a multiple of 8. */
+static size_t make_binary(uint8_t *out, size_t pairs, size_t image) {
+    size_t at = 72 + 16 * pairs, image_at = (at + 9 * pairs + 7) / 8 * 8, size = (image_at + image + 7) / 8 * 8, i;
+    memset(out, 0, size);
+    memcpy(out, "\x10\xff\x10\xad\1", 5);
+    put_word(out + 8, size);
+    put_word(out + 16, 32);
+    put_word(out + 24, 40);
+    put_word(out + 32, 3 << 16 | 5);
+    put_word(out + 40, 72);
+    put_word(out + 48, pairs);
+    put_word(out + 56, image_at);
+    put_word(out + 64, image);
+    for (i = 0; i < pairs; i++, at += 9) {
+        put_word(out + 72 + 16 * i, at);
+        put_word(out + 80 + 16 * i, at + 4);
+        sprintf((char *)out + at, "k%02u", (unsigned)i);
+        memcpy(out + at + 4, "text", 5);
+    }
+    memset(out + image_at, 'I', image);
+    return size;
+}
+
+/* Three of them. */
+enum { FIRST = 72, SECOND = 136, THIRD = 120, THREE = FIRST + SECOND + THIRD };
+
+static size_t make_three(uint8_t *out) {
+    size_t first = make_binary(out, 0, 0), second = make_binary(out + first, 2, IMAGE);
+    return first + second + make_binary(out + first + second, 1, 11);
+}
+
+/* `count` binaries, the smallest there are, with a byte before each where `gap` is 1: that with which a binary begins. The length. */
+static size_t make_row(uint8_t *out, size_t count, size_t gap) {
+    size_t length = 0, i;
+    for (i = 0; i < count; i++) {
+        memset(out + length, 0x10, gap);
+        length += gap + make_binary(out + length + gap, 0, 0);
+    }
+    return length;
+}
+
+static void sound_sequences(void) {
+    static uint8_t bytes[SPACE];
+    finds_all("no bytes", bytes, 0);
+    expect("three", "length", make_three(bytes), THREE);
+    finds_all("three", bytes, THREE);
+    bytes[FIRST + SECOND - 8] ^= 1;
+    finds_all("another image", bytes, THREE);
+    put_word(bytes + FIRST + 8, SECOND + THIRD);
+    finds_all("a size that takes in the next", bytes, THREE);
+    finds_all("the most string pairs", bytes, make_binary(bytes, 32, IMAGE));
+}
+
+/* Each of 13 to 17 skips the second of three, whatever else it holds. */
+static void damaged_sequences(void) {
+    static const struct {
+        const char *what;
+        size_t at; /* the word that is damaged */
+        uint64_t value;
+    } cases[] = {
+        {"magic", 0, UINT64_C(0x1AD10FF11)},
+        {"magic, its last byte", 0, UINT64_C(0x1AC10FF10)},
+        {"version", 0, UINT64_C(0x2AD10FF10)},
+        {"size under 72", 8, 71},
+        {"size 0", 8, 0},
+        {"size a byte past the end", 8, SECOND + THIRD + 1},
+        {"the highest size", 8, UINT64_MAX},
+        {"entry in the header", 16, 31},
+        {"entry past the end", 16, SECOND - 39},
+        {"entry, a sum that wraps", 16, UINT64_MAX - 8},
+        {"entry size", 24, 41},
+        {"image kind", 32, 6},
+        {"offload kind", 32, 4 << 16},
+        {"string table in the header", 40, 31},
+        {"string table past the end", 40, SECOND - 31},
+        {"string table, a sum that wraps", 40, UINT64_MAX - 15},
+        {"string pairs", 48, 33},
+        {"string pairs, a product that wraps", 48, UINT64_C(1) << 60},
+        {"a key in the header", 72, 31},
+        {"a key past the end", 72, SECOND},
+        {"an empty key", 72, 107},
+        {"the same key", 88, 104},
+        {"a text in the header", 80, 31},
+        {"a text past the end", 96, UINT64_MAX},
+        {"image in the header", 56, 31},
+        {"image past the end", 64, SECOND - 128 + 1},
+        {"image, a sum that wraps", 64, UINT64_MAX - 100},
+    };
+    static const struct offload_part span = {FIRST, SECOND};
+    static uint8_t bytes[SPACE], found[SPACE];
+    size_t i;
+    for (i = 0; i < sizeof cases / sizeof *cases; i++) {
+        make_three(found);
+        make_three(bytes);
+        put_word(bytes + FIRST + cases[i].at, cases[i].value);
+        memmove(found + FIRST, found + FIRST + SECOND, THIRD);
+        finds(cases[i].what, bytes, THREE, found, FIRST + THIRD, &span, 1);
+    }
+}
+
+/* A front or an end that is missing, of every length: what is whole in the rest is found. */
+static void cut_sequences(void) {
+    static const size_t ends[] = {0, FIRST, FIRST + SECOND, THREE};
+    static uint8_t bytes[SPACE];
+    size_t cut, k;
+    make_three(bytes);
+    for (cut = 0; cut <= THREE; cut++) {
+        struct offload_part span = {0, 0};
+        for (k = 3; ends[k] > cut; k--)
+            ;
+        span.start = ends[k];
+        span.length = cut - ends[k];
+        finds("an end is missing", bytes, cut, bytes, ends[k], &span, span.length > 0);
+        for (k = 0; ends[k] < cut; k++)
+            ;
+        span.start = 0;
+        span.length = ends[k] - cut;
+        finds("a front is missing", bytes + cut, THREE - cut, bytes + ends[k], THREE - ends[k], &span, span.length > 0);
+    }
+}
+
+/* More than one span, and binaries inside the image of another. */
+static void other_sequences(void) {
+    static const struct offload_part ends[2] = {{0, FIRST}, {FIRST + SECOND, THIRD}}, all = {0, THREE};
+    static uint8_t bytes[SPACE], three[SPACE];
+    struct offload_part front = {0, 72};
+    size_t length;
+    make_three(three);
+    make_three(bytes);
+    bytes[0] ^= 1;
+    bytes[FIRST + SECOND] ^= 1;
+    finds("the second alone", bytes, THREE, three + FIRST, SECOND, ends, 2);
+    bytes[FIRST] ^= 1;
+    finds("none", bytes, THREE, no_bytes, 0, &all, 1);
+    refused_recovery("none, and no room for the span", bytes, THREE, 0, 0, OFFLOAD_ROOM, 0);
+    memset(bytes, 0x10, THREE);
+    finds("no binary", bytes, THREE, no_bytes, 0, &all, 1);
+    length = make_binary(bytes, 0, THREE);
+    memcpy(bytes + 72, three, THREE);
+    finds_all("binaries in an image", bytes, length);
+    bytes[0] ^= 1;
+    finds("binaries in the image of a damaged one", bytes, length, three, THREE, &front, 1);
+    length = make_binary(bytes, 33, 0);
+    memcpy(bytes + length, three, THREE);
+    front.length = length;
+    finds("a string pair too many", bytes, length + THREE, three, THREE, &front, 1);
+}
+
+/* A key, and a text, of the most bytes and of a byte more: the end of an image, with the zero byte behind it. */
+static void long_strings(void) {
+    static uint8_t bytes[SPACE];
+    struct offload_part all = {0, 0};
+    size_t at;
+    for (at = 72; at <= 80; at += 8) {
+        all.length = make_binary(bytes, 1, 263);
+        put_word(bytes + at, all.length - 1 - 256);
+        finds_all("a string of the most bytes", bytes, all.length);
+        put_word(bytes + at, all.length - 1 - 257);
+        finds("a string too long", bytes, all.length, no_bytes, 0, &all, 1);
+    }
+}
+
+/* Binaries at every distance from the first byte, from each other and from the end, since positions are looked at in blocks. */
+static void far_apart(void) {
+    static uint8_t bytes[SPACE], row[SPACE];
+    size_t most = make_row(row, 2, 0), k;
+    for (k = 1; k <= 200; k++) {
+        struct offload_part spans[3] = {{0, k}, {72 + k, k}, {2 * (72 + k), k}};
+        memset(bytes, k % 2 ? 0x10 : 0xad, 2 * (72 + k) + k);
+        memcpy(bytes + k, row, 72);
+        memcpy(bytes + 72 + 2 * k, row, 72);
+        finds("two far apart", bytes, 2 * (72 + k) + k, row, most, spans, 3);
+    }
+}
+
+/* 64 binaries and as many spans as there can be; a 65th, whatever the room is; and a container that is too long. */
+static void many_binaries(void) {
+    static uint8_t bytes[SPACE], row[SPACE];
+    struct offload_part spans[OFFLOAD_BINARIES + 1];
+    size_t most = make_row(row, OFFLOAD_BINARIES, 0), length, i;
+    uint8_t *many;
+    finds_all("the most binaries", row, most);
+    for (i = 0; i <= OFFLOAD_BINARIES; i++) {
+        spans[i].start = i * (72 + 1);
+        spans[i].length = 1;
+    }
+    length = make_row(bytes, OFFLOAD_BINARIES, 1);
+    finds("the most binaries, a byte before each", bytes, length, row, most, spans, OFFLOAD_BINARIES);
+    bytes[length] = 0x10;
+    finds("the most spans", bytes, length + 1, row, most, spans, OFFLOAD_BINARIES + 1);
+    make_row(bytes, OFFLOAD_BINARIES + 1, 1);
+    refused_recovery("a binary too many, a byte before each", bytes, length + 1 + 72, SPACE, SPANS, OFFLOAD_MANY, length + 1);
+    refused_recovery("a binary too many, no room", bytes, length + 1 + 72, 0, 0, OFFLOAD_MANY, length + 1);
+    length = make_row(bytes, OFFLOAD_BINARIES + 1, 0);
+    refused_recovery("a binary too many", bytes, length, SPACE, SPANS, OFFLOAD_MANY, most);
+    refused_recovery("a binary too many, and more", bytes, length + 100, SPACE, SPANS, OFFLOAD_MANY, most);
+    spans[0].start = most;
+    spans[0].length = 71;
+    finds("a byte of the 65th missing", bytes, length - 1, row, most, spans, 1);
+    spans[0].start = 0;
+    spans[0].length = 72;
+    bytes[0] ^= 1;
+    finds("65, the first damaged", bytes, length, row, most, spans, 1);
+
+    many = (uint8_t *)calloc(OFFLOAD_LIMIT + 1, 1); /* zeros that are hardly ever looked at */
+    if (many == NULL)
+        exit(3);
+    make_row(many, OFFLOAD_BINARIES + 1, 0);
+    refused_recovery("the longest container", many, OFFLOAD_LIMIT, SPACE, SPANS, OFFLOAD_MANY, most);
+    refused_recovery("a byte too long", many, OFFLOAD_LIMIT + 1, SPACE, SPANS, OFFLOAD_LENGTH, 0);
+    refused_recovery("a byte too long, no room", many, OFFLOAD_LIMIT + 1, 0, 0, OFFLOAD_LENGTH, 0);
+    free(many);
+}
+
+/* IDs have no part in it. */
+static void recovered_binaries(void) {
+    by = &general;
+    sound_sequences();
+    damaged_sequences();
+    cut_sequences();
+    other_sequences();
+    long_strings();
+    far_apart();
+    many_binaries();
+}
+
 /* The profile. */
 
 /* An ID that both readings take, with the canonical form that each makes. */
@@ -1095,6 +1426,7 @@ int main(void) {
     alike(&profile);
     several_names();
     two_bundles();
+    recovered_binaries();
     profile_ids();
     profile_lengths();
     profile_names();

@@ -17,14 +17,17 @@ mkdir "$folder/some files"
 # Copies, for a user who may not read where these lie.
 offload=$folder/offload
 cards=$folder/cards
-driver=$folder/driver # has another image for the card
-other=$folder/other   # has none
+driver=$folder/driver   # has another image for the card
+other=$folder/other     # has none
+damaged=$folder/damaged # four offload binaries, of which the second is damaged
 cp "$1" "$offload"
 cp "$samples/bundles/three-cards.bundle" "$cards"
 cp "$samples/bundles/driver.bundle" "$driver"
 cp "$samples/bundles/alternative.bundle" "$other"
+cp "$samples/binaries/kinds.bin" "$damaged"
+printf x | dd of="$damaged" bs=1 seek=2208 conv=notrunc status=none
 chmod 755 "$folder" "$offload"
-chmod 644 "$cards" "$driver" "$other"
+chmod 644 "$cards" "$driver" "$other" "$damaged"
 cd "$folder/some files" || exit 1
 umask 022
 # shellcheck source=tests/answers.sh
@@ -326,6 +329,100 @@ same patch "$image"
 holds link main patch
 clear
 
+# Recovering takes every kind of input, and writes every kind of output as picking does.
+recovered='skipped, start 2208, length 4072
+written, binaries 3, length 6000*'
+{ head -c 2208 "$damaged"; tail -c +6281 "$damaged"; } >kept
+# recovers FILE: what it gives, which is written to a new file.
+recovers() {
+  rm -f file
+  expect 5 "$recovered" '' recover "$1" -o file
+  same file kept
+}
+recovers "$damaged"
+recovers - <"$damaged"
+recovers - < <(cat "$damaged")
+recovers <(head -c 5000 "$damaged"; sleep 0.1; tail -c +5001 "$damaged")
+mkfifo pipe
+cat "$damaged" >pipe &
+recovers pipe
+wait $!
+{ printf 123; cat "$damaged"; } >late
+{
+  head -c 3 >/dev/null
+  recovers -
+} <late
+ln -s "$damaged" link
+recovers link
+# The output: by way of a link, with its mode, standard output, and what is no file or may not be written.
+ln -sf file link
+printf old >file
+chmod 640 file
+expect 5 "$recovered" '' recover "$damaged" -o link
+same file kept
+is 'the link and the mode' "$(readlink link) $(stat -c %a file)" 'file 640'
+chmod 444 file
+expect 3 '' 'offload: cannot write link: Permission denied' recover "$damaged" -o link
+expect 3 '' 'offload: cannot write pipe: Not a regular file' recover "$damaged" -o pipe
+expect 3 '' 'offload: cannot write .: Is a directory' recover "$damaged" -o .
+same file kept
+chmod 644 file
+said 5 "$recovered" recover "$damaged" -o - >file
+said 5 "$recovered" recover "$damaged" -o - >>file
+cat kept kept >twice
+same file twice
+cat pipe >file &
+said 5 "$recovered" recover "$damaged" -o - >pipe
+wait $!
+same file kept
+said 3 'offload: cannot write *: No space left on device' recover "$damaged" -o - >/dev/full
+said 3 'offload: cannot write *: Bad file descriptor' recover "$damaged" -o - >&-
+ln -sf /proc/self/fd/1 out
+said 3 "offload: cannot write out: $open" recover "$damaged" -o out >>twice
+printf old >file
+cp file old
+(
+  ulimit -f 1
+  expect 3 '' 'offload: cannot write file: File too large' recover "$damaged" -o file
+  expect 3 '' 'offload: cannot write new: File too large' recover "$damaged" -o new
+  exit $wrong
+) || wrong=1
+same file old
+holds file kept late link old out pipe twice
+# The output may be the file that is read, by way of a link too; where no binary is found, it is left as it was.
+cp "$damaged" file
+expect 5 "$recovered" '' recover file -o link
+same file kept
+expect 0 'written, binaries 3, length 6000' '' recover link -o file
+same file kept
+is 'the link' "$(readlink link)" file
+cp "$cards" file
+expect 6 'skipped, start 0, length 17170' $'offload: link: *It looks like a bundle.\n  *\n  link is left as it was.' recover link -o link
+same file "$cards"
+clear
+# 32 MiB in two binaries, and signals.
+# binary SIZE: the first 72 bytes of a binary so long.
+binary() {
+  local value
+  printf '\x10\xff\x10\xad\1\0\0\0'
+  for value in "$1" 32 40 0 0 0 72 $(($1 - 72)); do word "$value"; done
+}
+half=$((large / 2))
+binary $half >large
+truncate -s $half large
+binary $half >>large
+truncate -s $large large
+expect 0 "written, binaries 2, length $large" '' recover large -o whole
+same whole large
+printf old >kept
+for delay in 0.005 0.01 0.02 0.03 0.05; do
+  cp kept whole
+  timeout -s TERM $delay "$offload" recover large -o whole >../output
+  is 'neither old nor new' "$(cmp -s whole kept || cmp -s whole large || echo whole)" ''
+  holds kept large whole
+done
+clear
+
 # Inputs that hold nothing, and that cannot be read.
 : >empty
 mkdir folder
@@ -337,6 +434,14 @@ expect 1 '' "$magic" check <(:)
 expect 1 '' "$magic" check /dev/null
 expect 1 '' 'offload: empty: 2 MAGIC*' pick --patch empty "$cards" "$card"
 expect 1 '' 'offload: /dev/null: 2 MAGIC*' pick --patch "$driver" /dev/null "$card"
+for file in empty /dev/null -; do
+  expect 0 'written, binaries 0, length 0' '' recover "$file" -o file
+  same file empty
+  rm file
+done
+expect 3 '' 'offload: cannot read folder: Is a directory' recover folder -o file
+expect 3 '' 'offload: cannot read standard input: Bad file descriptor' recover - -o file <&-
+expect 3 '' 'offload: cannot read missing: No such file or directory' recover missing -o file
 expect 3 '' 'offload: cannot read folder: Is a directory' check folder
 expect 3 '' 'offload: cannot read *: Is a directory' check - <folder
 expect 3 '' 'offload: cannot read *: Bad file descriptor' check - <&-
@@ -352,7 +457,16 @@ limit=1073741824
 expect 0 "$accepted" '' check - < <(cat "$cards" - < <(head -c $((limit - $(stat -c %s "$cards"))) /dev/zero))
 expect 1 '' 'offload: *: 1 LENGTH*' check - < <(head -c $((limit + 1)) /dev/zero)
 expect 1 '' 'offload: *: 1 LENGTH*' check /dev/zero
-holds
+expect 1 '' 'offload: /dev/zero: 1 LENGTH*' recover /dev/zero -o file
+truncate -s $((limit - 288)) long
+cat "$samples/binaries/small.bin" >>long
+expect 5 "skipped, start 0, length $((limit - 288))
+written, binaries 2, length 288" '' recover long -o file
+same file "$samples/binaries/small.bin"
+printf . >>long
+expect 1 '' $'offload: long: 1 LENGTH*\n  file is left as it was.' recover long -o file
+holds file long
+clear
 
 # As a user whom the system refuses something: not root, in a folder that he may write.
 me=$(id -u)
@@ -386,6 +500,9 @@ else
   expect 3 '' 'offload: cannot read hidden/file: Permission denied' check hidden/file
   expect 3 '' 'offload: cannot read hidden/file: Permission denied' pick --patch hidden/file "$cards" "$card"
   expect 3 '' 'offload: cannot read hidden/file: Permission denied' pick --patch "$driver" hidden/file "$card"
+  expect 3 '' 'offload: cannot read hidden/file: Permission denied' recover hidden/file -o new
+  expect 3 '' 'offload: cannot write closed/new: Permission denied' recover "$damaged" -o closed/new
+  expect 3 '' 'offload: cannot write own: Permission denied' recover "$damaged" -o own
   expect 3 '' 'offload: cannot read drop: Permission denied' check drop
   writes drop/new
   is 'the owner' "$(stat -c %u drop/new)" "$me"

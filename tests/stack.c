@@ -1,4 +1,5 @@
-/* The stack that each call takes on bundles of 64 entries, the most there can be, measured on a painted one: below the 64 KiB that the header names. */
+/* The stack that each call takes on bundles of 64 entries, or on 64 offload binaries, the most there can be, measured on a painted one: below the 64 KiB
+ * that the header names. */
 #include "offload.h"
 
 #include <pthread.h>
@@ -7,12 +8,14 @@
 #include <string.h>
 
 enum { STACK = 1 << 20, LIMIT = 64 << 10, PAINT = 0xA5, IMAGE = 100000 };
+enum { PAIRS = 32, KEY = 256, BINARY = 72 + PAIRS * (16 + KEY + 1) }; /* string pairs in a binary, the length of each, and that of the binary */
 
 static const char device[] = "hip-amdgcn-amd-amdhsa--gfx906:f0+:f1+:f2+:f3+:f4+:f5+";
 static const char profile_device[] = "hip-amdgcn-amd-amdhsa-e15-carrizo:xnack+";
 static uint8_t bundle[32 + OFFLOAD_ENTRIES * (24 + sizeof device) + IMAGE], normal[32 + OFFLOAD_ENTRIES * (24 + sizeof device + IMAGE)];
 static uint8_t patch[sizeof bundle]; /* as many entries, and none for the device */
 static const size_t length = sizeof bundle;
+static uint8_t binaries[OFFLOAD_BINARIES * (1 + BINARY) + 1], recovered[sizeof binaries];
 
 static void word(uint8_t *out, uint64_t value) {
     int i;
@@ -48,6 +51,31 @@ static void make_bundle(uint8_t *out, size_t (*id)(char *, unsigned)) {
         word(row + 16, size);
         row += 24 + size;
     }
+}
+
+/* A binary with the most string pairs, each of which is a key and a text in one. The keys are as long as they may be, and differ in their last bytes. */
+static void make_binary(uint8_t *out) {
+    size_t key = 72 + 16 * PAIRS, i;
+    memcpy(out, "\x10\xff\x10\xad\1", 5);
+    word(out + 8, BINARY);
+    word(out + 16, 32);
+    word(out + 24, 40);
+    word(out + 40, 72);
+    word(out + 48, PAIRS);
+    word(out + 56, BINARY);
+    for (i = 0; i < PAIRS; i++, key += KEY + 1) {
+        word(out + 72 + 16 * i, key);
+        word(out + 80 + 16 * i, key);
+        memset(out + key, 'k', KEY);
+        out[key + KEY - 1] = (uint8_t)('A' + i);
+    }
+}
+
+/* The most binaries, and a byte before, between and behind them: the most spans. */
+static void make_binaries(void) {
+    size_t k;
+    for (k = 0; k < OFFLOAD_BINARIES; k++)
+        make_binary(binaries + 1 + k * (BINARY + 1));
 }
 
 static void *nothing(void *out) { return out; }
@@ -109,6 +137,14 @@ static void *profile_normalise(void *out) {
     return out;
 }
 
+/* Every binary is found: where one were not, the answer would not be 0. */
+static void *recover(void *out) {
+    static struct offload_part spans[OFFLOAD_BINARIES + 1];
+    uint64_t found = offload_recover_length(binaries, sizeof binaries, recovered, sizeof recovered, spans, OFFLOAD_BINARIES + 1);
+    *(uint64_t *)out = found - OFFLOAD_BINARIES * BINARY;
+    return out;
+}
+
 /* The bytes of its stack that a thread touches, and its answer. */
 static size_t depth(void *(*call)(void *), uint64_t *answer) {
     pthread_attr_t attributes;
@@ -132,7 +168,7 @@ int main(void) {
     static const struct {
         const char *name;
         void *(*call)(void *);
-        size_t (*id)(char *, unsigned); /* of the bundle */
+        size_t (*id)(char *, unsigned); /* of the bundle, where there is one */
     } calls[] = {
         {"check", check, general_id},
         {"entry", entry_at, general_id},
@@ -144,15 +180,18 @@ int main(void) {
         {"check by the profile", profile_check, profile_id},
         {"pick by the profile", profile_pick, profile_id},
         {"normalise by the profile", profile_normalise, profile_id},
+        {"recover", recover, NULL},
     };
     size_t base, i;
     uint64_t answer = 0;
     int wrong = 0;
     base = depth(nothing, &answer);
     make_bundle(patch, profile_id);
+    make_binaries();
     for (i = 0; i < sizeof calls / sizeof *calls; i++) {
         size_t bytes;
-        make_bundle(bundle, calls[i].id);
+        if (calls[i].id != NULL)
+            make_bundle(bundle, calls[i].id);
         bytes = depth(calls[i].call, &answer) - base;
         printf("stack of %s: %zu bytes\n", calls[i].name, bytes);
         if (bytes >= LIMIT || answer != OFFLOAD_OK) {

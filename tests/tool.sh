@@ -12,6 +12,8 @@ generic=$samples/bundles/generic.bundle
 short=$samples/bundles/generic-short.bundle
 alternative=$samples/bundles/alternative.bundle
 driver=$samples/bundles/driver.bundle
+small=$samples/binaries/small.bin # two, of 144 bytes each
+four=$samples/binaries/kinds.bin  # of 2208, 4072, 1896 and 1896 bytes
 processors=$top/docs/amdgpu-processors.tsv
 by=(--profile amdgpu)
 folder=$(mktemp -d)
@@ -48,8 +50,9 @@ bundle() {
 }
 
 # Help and version.
-statuses='*Exit status:*0  accepted*1  refused*2  bad usage*3  a file *4  no image for this device (NONE)'
-all="offload [0-9]*.[0-9]*.[0-9]*: bundles of GPU images*offload check FILE*offload pick FILE DEVICE.. [[]--patch PATCH] [[]-o OUT]  find *"
+statuses='*Exit status:*0  accepted*1  refused*2  bad usage*3  a file *4  no image for this device (NONE)*5  recovered, but something was skipped*6  no binary to recover: all was skipped'
+all="offload [0-9]*.[0-9]*.[0-9]*: bundles of GPU images, *offload check FILE*offload pick FILE DEVICE.. [[]--patch PATCH] [[]-o OUT]  find *"
+all+='*offload recover FILE -o OUT  *'
 all+="*FILE *DEVICE *--patch PATCH *-o OUT *--profile amdgpu *--json *$statuses"
 for word in help -h --help; do
   expect 0 "$all" '' $word
@@ -96,13 +99,15 @@ for marks in '1 1 sramecc, xnack' '0 1 xnack' '0 0 none'; do
   has 'the manual page' "$(words "$top/tool/offload.1")" " $features $(named "$sramecc" "$xnack") ."
 done
 is 'rows of the table' "$(grep -vc '^#' "$processors")" 50
-# The manual page has every option of the help, and the words of pick.
+# The manual page has every option of the help, and the words of pick and recover.
 for text in '.BI --patch " PATCH" ' '.BI -o " OUT" ' '.B --profile amdgpu ' '.B --json ' '.B -- ' \
+  '.B offload recover .I FILE .B -o .I OUT .RB [ --json ] ' \
   '.B offload pick .I FILE DEVICE .RB [ --patch .IR PATCH ] .RB [ -o .IR OUT ] .RB [ "--profile amdgpu" ] .RB [ --json ] '; do
   has 'the manual page' "$(words "$top/tool/offload.1")" "$text"
 done
+# help COMMAND WORDS [PROFILE]
 help() {
-  local word pattern="offload $2 [[]--profile amdgpu] [[]--json]*$statuses"
+  local word pattern="offload $2 ${3-[[]--profile amdgpu] }[[]--json]*$statuses"
   expect 0 "$pattern" '' help "$1"
   for word in -h --help; do
     expect 0 "$pattern" '' "$1" $word
@@ -116,7 +121,11 @@ has 'help pick' "$(words ../output)" ' --patch PATCH a bundle that pick looks in
 help explain 'explain FILE DEVICE'
 help normalise 'normalise FILE -o OUT'
 help normalize 'normalise FILE -o OUT'
-for word in check list explain normalise; do is "a patch in help $word" "$("$offload" help $word | grep -ci patch)" 0; done
+help recover 'recover FILE -o OUT' ''
+has 'help recover' "$(words ../output)" ' FILE offload binaries, as clang-offload-packager writes them, whole or damaged; - is standard input'
+is 'a profile in help recover' "$("$offload" help recover | grep -ci profile)" 0
+for word in check list explain normalise recover; do is "a patch in help $word" "$("$offload" help $word | grep -ci patch)" 0; done
+for word in check list pick explain normalise; do has "help $word" "$("$offload" help $word)" '  FILE              a bundle; - is standard input'; done
 expect 0 'offload [0-9]*.[0-9]*.[0-9]*' '' --version
 expect 2 '' $'offload: unexpected word now\nTry: offload help' --version now
 holds
@@ -153,6 +162,21 @@ usage 'missing DEVICE' pick pick -- "$cards"
 usage 'missing -o OUT' normalise normalise "$cards"
 usage 'missing -o OUT' normalise normalize "$cards"
 usage 'missing FILE' normalise normalise -o out
+usage 'missing FILE' recover recover -o out
+usage 'missing FILE' recover recover --json
+usage 'missing -o OUT' recover recover "$small"
+usage 'missing -o OUT' recover recover --json -- "$small"
+usage 'no file name after -o' recover recover "$small" -o
+usage 'a second -o' recover recover -o one "$small" -o two
+usage 'unexpected word more' recover recover "$small" more -o out
+usage 'unexpected word --json' recover recover -o out -- "$small" --json
+usage 'unknown option --spans' recover recover --spans "$small" -o out
+usage 'unknown option -o' '' -o out recover "$small"
+usage 'unknown command recove' '' recove "$small" -o out
+for words in '--profile amdgpu' --profile=amdgpu '--profile nvptx' --profile= --profile; do
+  # shellcheck disable=SC2086
+  usage 'only commands that read bundles have the option --profile' recover recover "$small" -o out $words
+done
 usage 'no file name after --patch' pick pick "$cards" gfx906 --patch
 usage 'no file name after --patch' pick pick --patch= "$cards" gfx906
 usage 'no file name after --patch' pick pick "$cards" --patch '' gfx906
@@ -164,7 +188,7 @@ usage 'PATCH and FILE cannot both be standard input' pick pick --patch - - gfx90
 usage 'PATCH and FILE cannot both be standard input' pick pick - --json gfx906 gfx906 --patch=-
 usage 'unknown option --patches' pick pick --patches "$driver" "$cards" gfx906
 usage 'unknown option --patch' '' --patch "$driver" pick "$cards" gfx906
-for word in check list explain normalise; do
+for word in check list explain normalise recover; do
   usage 'only pick has the option --patch' $word $word --patch "$driver" "$cards"
   usage 'only pick has the option --patch' $word $word "$cards" --patch="$driver" gfx906 -o out
   usage 'only pick has the option --patch' $word $word "$cards" --patch
@@ -707,7 +731,7 @@ looks 'an empty file' '*written whole*' ''
 looks 'a compressed bundle' '*clang-offload-bundler -unbundle*without -compress.' 'CCOB\2\0'
 looks 'an archive' '*llvm-ar x FILE*' '!<arch>\n'
 looks 'an ELF file' '*objcopy*.hip_fatbin*clang-offload-bundler -unbundle -type=o*' '\177ELF'
-looks 'offload binaries' '*clang-offload-packager*' '\020\377\020\255'
+looks 'offload binaries' '*clang-offload-packager*offload recover*' '\020\377\020\255'
 looks 'the beginning of a bundle' '*cut short*' '_'
 looks 'the beginning of a bundle' '*cut short*' __CLANG_OFFLOAD_BUNDLE_
 for sign in ';' '#' //; do
@@ -1355,6 +1379,263 @@ expect 0 'accepted, entries 4' '' check - "${by[@]}" < <("$offload" normalise "$
 holds apart big entry kept mixed new normal order out shared twice
 rm ./*
 
+# Recovering offload binaries. What is found is written, and each span that is skipped is told; where there is one, the status is 5.
+# part START LENGTH: these bytes of the four.
+part() {
+  tail -c +$(($1 + 1)) "$four" | head -c "$2"
+}
+# wound AT BYTES: the file damaged gets these bytes there; it is a copy of the four where none is there.
+wound() {
+  [ -e damaged ] || cp "$four" damaged
+  # shellcheck disable=SC2059
+  printf "$2" | dd of=damaged bs=1 seek="$1" conv=notrunc status=none
+}
+# recovers FILE BINARIES [START+LENGTH]..: so many binaries are found, those of the file wanted, and these spans are skipped.
+recovers() {
+  local file=$1 count=$2 status=$(($# > 2 ? 5 : 0)) skipped=0 text='' spans='' length span object
+  length=$(stat -c %s wanted)
+  for span in "${@:3}"; do
+    text+="skipped, start ${span%+*}, length ${span#*+}"$'\n'
+    spans+=",{\"start\":${span%+*},\"length\":${span#*+}}"
+    skipped=$((skipped + ${span#*+}))
+  done
+  text+="written, binaries $count, length $length"
+  object="\"number\":0,\"name\":\"OK\",\"binaries\":$count,\"length\":$length,\"spans\":[[]${spans#,}]}"
+  is 'what is copied and what is skipped' $((length + skipped)) "$(stat -c %s "$file")"
+  expect "$status" "$text" '' recover "$file" -o out
+  same out wanted
+  expect 0 "written, binaries $count, length $length" '' recover out -o again
+  same again wanted
+  printf old >out
+  expect "$status" "{\"file\":\"$file\",$object" '' recover --json -o out -- "$file"
+  same out wanted
+  said "$status" "$text" recover -o - "$file" >out
+  same out wanted
+  said "$status" "{\"file\":\"-\",$object" recover - -o - --json <"$file" >out
+  same out wanted
+  expect "$status" "$text" '' recover - -o out < <(cat "$file")
+  same out wanted
+  rm out again wanted
+}
+# recovers_parts FILE START+LENGTH.. [-- START+LENGTH..]: of the four these are found, and these spans are skipped.
+recovers_parts() {
+  local file=$1 count=0
+  shift
+  for (( ; $# > 0; count++)); do
+    [ "$1" != -- ] || { shift; break; }
+    part "${1%+*}" "${1#*+}"
+    shift
+  done >wanted
+  recovers "$file" $count "$@"
+}
+one=0+2208 two=2208+4072 three=6280+1896 last=8176+1896
+# A file that is not damaged comes out unchanged, an empty one too.
+for pair in one.bin:1 bitcode.bin:1 kinds.bin:4 pairs.bin:2 small.bin:2; do
+  cp "$samples/binaries/${pair%:*}" wanted
+  recovers "$samples/binaries/${pair%:*}" "${pair#*:}"
+done
+: >empty
+: >wanted
+recovers empty 0
+rm empty
+# One of the four is damaged: in its magic, version, size, entry size, kinds, strings or image size.
+for bytes in '0 x' '4 \2' '9 \0' '10 \1' '24 \51' '32 \6' '34 \4' '48 \41' '72 \37' '64 \377\377'; do
+  for k in 0 2208 6280 8176; do
+    wound $((k + ${bytes% *})) "${bytes#* }"
+    case $k in
+      0) recovers_parts damaged $two $three $last -- $one ;;
+      2208) recovers_parts damaged $one $three $last -- $two ;;
+      6280) recovers_parts damaged $one $two $last -- $three ;;
+      8176) recovers_parts damaged $one $two $three -- $last ;;
+    esac
+    rm damaged
+  done
+done
+# Several: two spans, or one where they are neighbours.
+wound 0 x; wound 6280 x
+recovers_parts damaged $two $last -- $one $three
+wound 2208 x
+recovers_parts damaged $last -- 0+8176
+rm damaged
+wound 2208 x; wound 8176 x
+recovers_parts damaged $one $three -- $two $last
+rm damaged
+# A front or an end that is missing, and bytes that are no binary before, between and behind.
+part 1 10071 >damaged
+recovers_parts damaged $two $three $last -- 0+2207
+part 2207 7865 >damaged
+recovers_parts damaged $two $three $last -- 0+1
+head -c -1 "$four" >damaged
+recovers_parts damaged $one $two $three -- 8176+1895
+head -c 8177 "$four" >damaged
+recovers_parts damaged $one $two $three -- 8176+1
+{ printf rubbish; cat "$four"; } >damaged
+recovers_parts damaged $one $two $three $last -- 0+7
+{ cat "$four"; printf '\n'; } >damaged
+recovers_parts damaged $one $two $three $last -- 10072+1
+{ part 0 2208; printf '\020\377\020\255'; part 2208 7864; } >damaged
+recovers_parts damaged $one $two $three $last -- 2208+4
+# Images are not looked into. Where bytes of one are missing, or its binary has a size that is too high, it takes in a part of the next, or all of it.
+{ part 0 3000; head -c 500 /dev/zero; part 3500 6572; } >damaged
+cp damaged wanted
+recovers damaged 4
+{ part 0 6000; part 6280 3792; } >damaged
+{ head -c 6280 damaged; part 8176 1896; } >wanted
+recovers damaged 3 6280+1616
+rm damaged
+wound 2216 '\120\027'
+cp damaged wanted
+recovers damaged 3
+# In no order, and one twice.
+{ part 8176 1896; printf .; part 0 2208; part 0 2208; printf ..; part 2208 4071; } >damaged
+recovers_parts damaged $last $one $one -- 1896+1 6313+4073
+# binary SIZE: the first 72 bytes of a binary so long, whose image is the rest.
+binary() {
+  printf '\x10\xff\x10\xad\1\0\0\0'
+  word "$1"
+  word 32
+  word 40
+  word 0
+  word 0
+  word 0
+  word 72
+  word $(($1 - 72))
+}
+# Binaries inside the image of a damaged one are found; inside that of a whole one they are not.
+{ binary 360; cat "$small"; } >nested
+cp nested wanted
+recovers nested 1
+{ printf x; tail -c +2 nested; } >damaged
+cp "$small" wanted
+recovers damaged 2 0+72
+# Of a program that holds them, too: as LLVM's new driver puts them into a section of an object.
+{ cat "$samples/images/gfx906.o" "$small"; printf end; } >damaged
+cp "$small" wanted
+recovers damaged 2 0+2032 2320+3
+rm damaged nested
+
+# 64 binaries, with bytes between them or not; the 65th is refused, and named by its first byte, whatever lies before it.
+for k in {1..64}; do binary 72; done >most
+cp most wanted
+recovers most 64
+spans=(0+1)
+for k in {1..64}; do
+  printf '.'
+  binary 72
+  spans+=($((73 * k))+1)
+done >spread
+printf . >>spread
+cp most wanted
+recovers spread 64 "${spans[@]}"
+too_many='There are more than 64 binaries in the file. The 65th begins at this byte.'
+# shellcheck disable=SC2016 # for the person who reads it
+cut='Cut the file in two there, and recover each part: head -c BYTE FILE, and tail -c +$((BYTE + 1)) FILE.'
+printf kept >out
+cp out kept
+# many BYTE: the file damaged has its 65th binary there.
+many() {
+  local said=": 18 MANY, byte $1: $too_many"$'\n'"  $cut"
+  local object="\"number\":18,\"name\":\"MANY\",\"place\":$1,\"sentence\":\"$too_many\",\"advice\":\"$cut\""
+  expect 1 '' "offload: damaged$said$left" recover damaged -o out
+  expect 1 '' "offload: damaged$said" recover damaged -o new
+  expect 1 '' "offload: standard input$said" recover - -o - <damaged
+  expect 1 "{\"file\":\"damaged\",$object,\"kept\":\"out\"}" '' recover damaged --json -o out
+  expect 1 "{\"file\":\"damaged\",$object}" '' recover damaged --json -o new
+  same out kept
+  holds damaged kept most out spread
+}
+{ cat most; binary 72; } >damaged
+many 4608
+{ cat most; binary 72; binary 72; printf rubbish; } >damaged
+many 4608
+{ cat most; printf rubbish; cat "$four"; } >damaged
+many 4615
+cat spread most >damaged
+many 4673
+{ printf x; tail -c +2 most; cat "$small"; } >damaged
+many 4752
+# The message says how to cut: the two parts give all.
+head -c 4752 damaged >first
+tail -c +$((4752 + 1)) damaged >second
+expect 5 'skipped, start 0, length 72
+written, binaries 64, length 4680' '' recover first -o out
+expect 0 'written, binaries 1, length 144' '' recover second -o out
+# A 65th that is damaged is none.
+{ cat most; printf x; binary 72 | tail -c +2; } >damaged
+cp most wanted
+recovers damaged 64 4608+72
+rm ./*
+
+# Too long.
+truncate -s 1073741825 long
+too_long='The file is longer than 1073741824 bytes.'
+parts='Cut it into parts that are not, and recover each: a binary through which a cut goes is skipped.'
+expect 1 '' "offload: long: 1 LENGTH: $too_long"$'\n'"  $parts" recover long -o out
+expect 1 "{\"file\":\"long\",\"number\":1,\"name\":\"LENGTH\",\"sentence\":\"$too_long\",\"advice\":\"$parts\"}" '' recover long --json -o out
+holds long
+rm long
+
+# Where no binary is found, the file may be the wrong one: nothing is written, and the message says what it looks like.
+printf kept >out
+cp out kept
+# nothing LIKE ADVICE FILE: LIKE is empty where the file is like nothing known.
+nothing() {
+  local said="No whole offload binary stands in the file." object length skipped
+  length=$(stat -c %s "$3")
+  skipped="skipped, start 0, length $length"
+  object="\"number\":0,\"name\":\"OK\",\"binaries\":0,\"length\":0,\"spans\":[[]{\"start\":0,\"length\":$length}],"
+  object+="\"sentence\":\"$said\",${1:+\"looks_like\":\"$1\",}\"advice\":\"$2\""
+  said+="${1:+ It looks like $1.}"$'\n'"  $2"
+  expect 6 "$skipped" "offload: $3: $said" recover "$3" -o new
+  expect 6 "$skipped" "offload: $3: $said$left" recover "$3" -o out
+  expect 6 '' "$skipped"$'\n'"offload: standard input: $said" recover - -o - <"$3"
+  expect 6 "{\"file\":\"$3\",$object}" '' recover "$3" --json -o new
+  expect 6 "{\"file\":\"$3\",$object,\"kept\":\"out\"}" '' recover "$3" --json -o out
+  same out kept
+}
+give='Give offload binaries, as clang-offload-packager writes them. If it is such a file, too much of it is damaged: copy it or make it again.'
+for sample in "${accepted[@]}" "$samples/refused/overlap.bundle"; do
+  nothing 'a bundle' 'This command reads offload binaries: check, list, pick, explain and normalise read bundles.' "$sample"
+done
+holds kept out
+nothing 'an ELF file' "$give" "$samples/images/gfx906.o"
+nothing '' "$give" "$samples/images/gfx906.bc"
+head -c 2175 "$samples/binaries/one.bin" >file
+nothing 'offload binaries' "$give" file
+tail -c +2 "$samples/binaries/one.bin" >file
+nothing '' "$give" file
+for start in 'CCOB:a compressed bundle' '!<arch>\n:an archive' '# __CLANG_OFFLOAD_BUNDLE____START__:a text bundle' '__CLANG_OFFLOAD_BUNDLE_:the beginning of a bundle' \
+  'rubbish:' '\0:' '\020\377\020\255:offload binaries'; do
+  # shellcheck disable=SC2059
+  printf "${start%:*}" >file
+  nothing "${start##*:}" "$give" file
+done
+holds file kept out
+# The output may be the file: it then holds what was found, or what it held.
+cp "$four" damaged
+expect 0 'written, binaries 4, length 10072' '' recover damaged -o damaged
+same damaged "$four"
+wound 2208 x
+expect 5 'skipped, start 2208, length 4072
+written, binaries 3, length 6000' '' recover damaged -o damaged
+expect 0 'written, binaries 3, length 6000' '' recover damaged -o damaged
+is 'the length' "$(stat -c %s damaged)" 6000
+cp "$cards" damaged
+expect 6 'skipped, start 0, length 17170' $'offload: damaged: No *It looks like a bundle.\n  *\n  damaged is left as it was.' recover damaged -o damaged
+same damaged "$cards"
+# Files that cannot be read or written.
+missing='No such file or directory'
+expect 3 '' "offload: cannot read missing: $missing" recover missing -o new
+expect 3 "{\"file\":\"missing\",\"cannot\":\"read\",\"reason\":\"$missing\"}" '' recover missing --json -o new
+expect 3 '' 'offload: cannot read .: Is a directory' recover . -o new
+expect 3 '' 'offload: cannot read standard input: Is a directory' recover - -o new <.
+expect 3 '' "offload: cannot write missing/out: $missing" recover "$four" -o missing/out
+expect 3 "{\"file\":\"missing/out\",\"cannot\":\"write\",\"reason\":\"$missing\"}" '' recover "$four" -o missing/out --json
+expect 3 '' 'offload: cannot write .: Is a directory' recover "$four" -o .
+expect 3 '' "offload: cannot write : $missing" recover "$four" -o ''
+holds damaged file kept out
+rm ./*
+
 # Standard input and standard output.
 expect 0 'accepted, entries 8' '' check - <"$cards"
 expect 0 'accepted, entries 8' '' check -- - < <(cat "$cards")
@@ -1408,6 +1689,7 @@ full pick "$cards" "${gfx}1030" -o -
 full pick "$cards" "${gfx}1030" "${gfx}1030"
 full pick --patch "$driver" "$cards" "${gfx}1030" -o -
 full pick --patch "$driver" "$cards" "${gfx}1030" "${gfx}1030"
+full recover "$four" -o -
 full help
 
 [ $wrong = 0 ] && echo "offload: $tried answers as expected"

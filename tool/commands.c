@@ -65,6 +65,24 @@ const struct command commands[] = {
         .help = "Writes the normal form of a bundle to OUT, whole or not at all: entries sorted by canonical ID, images packed after the\n"
                 "table. Bundles that hold the same entries, kinds as spelled, have the same normal form, byte for byte. OUT may be FILE.\n",
     },
+    {
+        .name = "recover",
+        .operands = {"FILE"},
+        .files = 1,
+        .binaries = 1,
+        .output = NEEDS_OUTPUT,
+        .run = recover,
+        .summary = "save what is whole in a damaged file of offload binaries",
+        .help = "Offload binaries lie end to end: behind one that is damaged nothing can be read in order. This takes, from the first byte\n"
+                "on, the lowest position at which a whole binary stands, goes on behind it, and so on to the end of FILE. What is found is\n"
+                "written to OUT, whole or not at all: sound offload binaries.\n"
+                "\n"
+                "Prints a line for each span of FILE that is skipped, its start and its length in bytes, and then how many binaries are\n"
+                "written and how many bytes. Images are not looked into: a binary that is damaged in its image alone counts as whole.\n"
+                "The exit status is 0 if nothing is skipped, and OUT is then the same as FILE; 5 if something is skipped; 6 if all is, since\n"
+                "no binary is found and FILE is not empty, and OUT is then left as it was; and 1 if FILE is refused: it is too long (LENGTH)\n"
+                "or has more than 64 binaries (MANY). OUT may be FILE, but what is skipped is lost then.\n",
+    },
     {.name = NULL},
 };
 

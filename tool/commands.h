@@ -7,7 +7,8 @@
 
 #include <stdio.h>
 
-enum status { ACCEPTED = 0, REFUSED = 1, BAD_USAGE = 2, FILE_FAILURE = 3, NO_IMAGE = 4 };
+/* SKIPPED: some of the file is not recovered. NOTHING_FOUND: nothing of it is. */
+enum status { ACCEPTED = 0, REFUSED = 1, BAD_USAGE = 2, FILE_FAILURE = 3, NO_IMAGE = 4, SKIPPED = 5, NOTHING_FOUND = 6 };
 
 enum { OPERANDS = 2 }; /* the most that a command names */
 
@@ -19,6 +20,7 @@ struct input {
 
 /* What a command is asked: its operands, those that are files, and its options. */
 struct request {
+    const struct command *command;
     char **operands;
     int count; /* of the operands */
     struct input files[OPERANDS];
@@ -38,6 +40,7 @@ struct command {
     int files;                          /* how many of them are files, which come first */
     int repeats;                        /* whether the last may stand more than once */
     int patch;                          /* whether it has the option --patch */
+    int binaries;                       /* whether the file is offload binaries, and not a bundle: there are no IDs then */
     enum output output;
     enum status (*run)(const struct request *request);
     const char *summary; /* one line */
@@ -61,5 +64,6 @@ enum status list(const struct request *request);
 enum status pick(const struct request *request);
 enum status explain(const struct request *request);
 enum status normalise(const struct request *request);
+enum status recover(const struct request *request);
 
 #endif

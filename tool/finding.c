@@ -16,7 +16,7 @@ static void find_earlier(const struct request *request, struct finding *finding)
 
 static void find_entry(const struct request *request, uint64_t place, struct finding *finding) {
     enum names names = finding->refusal.names;
-    finding->has_place = names == NAMES_ENTRY || names == NAMES_ID || names == NAMES_IMAGE;
+    finding->has_place = names != NAMES_FILE && names != NAMES_DEVICE;
     finding->place = place;
     if (names == NAMES_ID || names == NAMES_IMAGE)
         finding->has_row = read_row(finding->file->bytes, place, &finding->row);
@@ -43,10 +43,10 @@ struct finding find_out(const struct request *request, const struct input *file,
     struct finding finding = {0};
     finding.number = number;
     finding.file = file;
-    finding.refusal = refusal_of(request->reading, has_patch(request), number);
+    finding.refusal = refusal_of(request, number);
     finding.device = finding.refusal.names == NAMES_DEVICE ? device : NULL;
     if (finding.refusal.advice == NULL) {
-        finding.looks = looks_of(file->bytes);
+        finding.looks = (request->command->binaries ? looks_without_binaries : looks_of)(file->bytes);
         finding.refusal.advice = finding.looks.advice;
     }
     find_entry(request, place, &finding);

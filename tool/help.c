@@ -7,16 +7,17 @@
 
 enum { SYNOPSIS = 43, NAME = 16 }; /* widths of columns */
 
-/* What the operands of commands are. */
-static const struct {
-    const char *name;
-    const char *meaning;
-} operands[] = {
-    {"FILE", "a bundle; - is standard input"},
-    {"DEVICE", "a device name, written as an entry ID: hip-amdgcn-amd-amdhsa--gfx906:sramecc+:xnack- (offload help id)"},
-};
+static const char file_help[] = "a bundle; for recover, offload binaries; - is standard input";
+
+static const char bundle_help[] = "a bundle; - is standard input";
+
+static const char binaries_help[] = "offload binaries, as clang-offload-packager writes them, whole or damaged; - is standard input";
+
+static const char device_help[] = "a device name, written as an entry ID: hip-amdgcn-amd-amdhsa--gfx906:sramecc+:xnack- (offload help id)";
 
 static const char patch_help[] = "a bundle that pick looks in before FILE, which is then the main one; - is standard input";
+
+static const char profile_option_help[] = "read IDs by the profile for AMD's GPUs: unknown processors and features are refused (offload help profile)";
 
 static const char output_help[] = "where the output goes, whole or not at all; - is standard output, and the answer goes to standard error";
 
@@ -24,10 +25,12 @@ static const char statuses[] =
     "\n"
     "Exit status:\n"
     "  0  accepted\n"
-    "  1  refused: a bundle is damaged or breaks a rule, or the device name is not written as one must be\n"
+    "  1  refused: a bundle is damaged or breaks a rule, a device name is not written as one must be, or there are too many binaries\n"
     "  2  bad usage\n"
     "  3  a file cannot be read or written\n"
-    "  4  no image for this device (NONE)\n";
+    "  4  no image for this device (NONE)\n"
+    "  5  recovered, but something was skipped\n"
+    "  6  no binary to recover: all was skipped\n";
 
 static const char id_help[] =
     "Entry IDs, and device names, which are written like them:\n"
@@ -71,11 +74,8 @@ static void print_meaning(const char *name, const char *meaning) {
     printf("  %-*s  %s\n", NAME, name, meaning);
 }
 
-static void print_operand(const char *name) {
-    size_t i;
-    for (i = 0; i < sizeof operands / sizeof *operands; i++)
-        if (strcmp(name, operands[i].name) == 0)
-            print_meaning(name, operands[i].meaning);
+static void print_operand(const struct command *command, const char *name) {
+    print_meaning(name, strcmp(name, "FILE") != 0 ? device_help : command->binaries ? binaries_help : bundle_help);
 }
 
 /* What stands for the output among the words of a command. */
@@ -98,12 +98,13 @@ static void print_row(const struct command *command) {
     printf("%*s  %s\n", SYNOPSIS - printed, "", command->summary);
 }
 
-static void print_options(int patch, int output) {
+static void print_options(int patch, int output, int profile) {
     if (patch)
         print_meaning("--patch PATCH", patch_help);
     if (output)
         print_meaning("-o OUT", output_help);
-    print_meaning("--profile " AMDGPU, "read IDs by the profile for AMD's GPUs: unknown processors and features are refused (offload help profile)");
+    if (profile)
+        print_meaning("--profile " AMDGPU, profile_option_help);
     print_meaning("--json", "answer in JSON, one object a line");
     print_meaning("--", "no option stands after this word");
     fputs(statuses, stdout);
@@ -111,17 +112,16 @@ static void print_options(int patch, int output) {
 
 enum status help_all(void) {
     const struct command *command;
-    size_t i;
-    printf("offload %s: bundles of GPU images\n\n", OFFLOAD_VERSION);
+    printf("offload %s: bundles of GPU images, and offload binaries\n\n", OFFLOAD_VERSION);
     for (command = commands; command->name != NULL; command++)
         print_row(command);
     printf("  offload %-*s  %s\n", SYNOPSIS, "help [COMMAND]", "print this text, or more about a command");
     printf("  offload %-*s  %s\n", SYNOPSIS, "help id", "say how entry IDs and device names are written");
     printf("  offload %-*s  %s\n", SYNOPSIS, "help profile", "say how the profile for AMD's GPUs reads some of them");
     printf("  offload %-*s  %s\n\n", SYNOPSIS, "--version", "print the version");
-    for (i = 0; i < sizeof operands / sizeof *operands; i++)
-        print_meaning(operands[i].name, operands[i].meaning);
-    print_options(1, 1);
+    print_meaning("FILE", file_help);
+    print_meaning("DEVICE", device_help);
+    print_options(1, 1, 1);
     return ACCEPTED;
 }
 
@@ -129,10 +129,10 @@ enum status help_command(const struct command *command) {
     int i;
     fputs("offload ", stdout);
     print_synopsis(command);
-    printf(" [--profile " AMDGPU "] [--json]\n\n%s\n", command->help);
+    printf("%s [--json]\n\n%s\n", command->binaries ? "" : " [--profile " AMDGPU "]", command->help);
     for (i = 0; command->operands[i] != NULL; i++)
-        print_operand(command->operands[i]);
-    print_options(command->patch, command->output != NO_OUTPUT);
+        print_operand(command, command->operands[i]);
+    print_options(command->patch, command->output != NO_OUTPUT, !command->binaries);
     return ACCEPTED;
 }
 

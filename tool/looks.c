@@ -22,7 +22,8 @@ static const struct {
     {"!<arch>\n", {"an archive", "Take its members out (llvm-ar x FILE) and give those that are bundles."}},
     {"\x7f" "ELF", {"an ELF file", "A bundle inside a program: objcopy -O binary -j .hip_fatbin FILE OUT takes it out. "
                                      "An object with parts for several devices: clang-offload-bundler -unbundle -type=o takes it apart."}},
-    {"\x10\xff\x10\xad", {"offload binaries", "Only bundles are read here: clang-offload-packager takes images out of offload binaries."}},
+    {"\x10\xff\x10\xad", {"offload binaries", "This command reads bundles: clang-offload-packager takes images out of offload binaries, "
+                                             "and offload recover saves what is whole in damaged ones."}},
 };
 
 /* Takes these first bytes off the bytes; 0, and nothing is taken, where others stand there. */
@@ -55,4 +56,12 @@ struct looks looks_of(struct bytes file) {
         if (take(&file, known[i].start))
             return known[i].looks;
     return is_beginning(file) ? beginning : is_text_bundle(file) ? text_bundle : unknown;
+}
+
+struct looks looks_without_binaries(struct bytes file) {
+    static const struct looks bundle = {"a bundle", "This command reads offload binaries: check, list, pick, explain and normalise read bundles."};
+    struct looks looks = looks_of(file);
+    looks.advice = "Give offload binaries, as clang-offload-packager writes them. "
+                   "If it is such a file, too much of it is damaged: copy it or make it again.";
+    return take(&file, BUNDLE_MAGIC) ? bundle : looks;
 }

@@ -1,4 +1,4 @@
-/* What a file that is no bundle looks like. */
+/* What a file looks like that is not what a command reads. */
 #ifndef TOOL_LOOKS_H
 #define TOOL_LOOKS_H
 
@@ -10,6 +10,10 @@ struct looks {
     const char *advice;
 };
 
+/* Of a file that is no bundle. */
 struct looks looks_of(struct bytes file);
+
+/* Of a file in which no offload binary is found. */
+struct looks looks_without_binaries(struct bytes file);
 
 #endif

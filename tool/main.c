@@ -1,4 +1,4 @@
-/* offload: check a bundle, list its entries, pick the image for a device, put a bundle in normal form. */
+/* offload: check a bundle, list its entries, pick the image for a device, put a bundle in normal form; recover offload binaries. */
 #include "commands.h"
 #include "help.h"
 #include "message.h"
@@ -27,7 +27,7 @@ static enum status run(const struct command *command, struct request *request) {
 }
 
 static enum status answer_command(const struct command *command, char **words) {
-    struct request request = {.reading = &general_reading};
+    struct request request = {.command = command, .reading = &general_reading};
     enum wish wish = read_words(command, words, &request);
     return wish == WISH_RUN ? run(command, &request) : wish == WISH_HELP ? help_command(command) : BAD_USAGE;
 }

@@ -16,14 +16,16 @@ static const char *output_name(const char *path) {
     return strcmp(path, "-") == 0 ? "standard output" : path;
 }
 
-/* What is refused: the file, or both where neither has an image, the number with its name, and the entry or the device. */
+/* What is refused: the file, or both where neither has an image, the number with its name, and the entry, the byte or the device. */
 static void print_subject(const struct request *request, const struct finding *finding) {
     fputs("offload: ", stderr);
     if (has_patch(request) && finding->number == OFFLOAD_NONE)
         fprintf(stderr, "%s and ", input_name(request->patch.path));
-    fprintf(stderr, "%s: %" PRIu64 " %s", input_name(finding->file->path), finding->number, offload_name(finding->number));
+    fputs(input_name(finding->file->path), stderr);
+    if (finding->number != OFFLOAD_OK)
+        fprintf(stderr, ": %" PRIu64 " %s", finding->number, offload_name(finding->number));
     if (finding->has_place)
-        fprintf(stderr, ", entry %" PRIu64, finding->place);
+        fprintf(stderr, ", %s %" PRIu64, finding->refusal.names == NAMES_BYTE ? "byte" : "entry", finding->place);
     if (finding->has_row) {
         putc(' ', stderr);
         print_quoted(stderr, finding->row.id);
@@ -80,6 +82,15 @@ static void put_row(struct json *object, const struct finding *finding) {
     }
 }
 
+static void put_advice(struct json *object, const struct finding *finding) {
+    json_text(object, "sentence", finding->refusal.sentence);
+    if (finding->looks.like != NULL)
+        json_text(object, "looks_like", finding->looks.like);
+    json_text(object, "advice", finding->refusal.advice);
+    if (finding->kept != NULL)
+        json_text(object, "kept", finding->kept);
+}
+
 static void put_finding(struct json *object, const struct request *request, const struct finding *finding) {
     put_number(object, finding->number);
     if (has_patch(request) && finding->refusal.names != NAMES_DEVICE)
@@ -92,12 +103,7 @@ static void put_finding(struct json *object, const struct request *request, cons
         json_text(object, "device", finding->device);
     if (finding->fault.length > 0)
         json_bytes(object, finding->fault.kind == UNKNOWN_PROCESSOR ? "processor" : "feature", fault_bytes(finding));
-    json_text(object, "sentence", finding->refusal.sentence);
-    if (finding->looks.like != NULL)
-        json_text(object, "looks_like", finding->looks.like);
-    json_text(object, "advice", finding->refusal.advice);
-    if (finding->kept != NULL)
-        json_text(object, "kept", finding->kept);
+    put_advice(object, finding);
 }
 
 enum status refuse(const struct request *request, const struct input *file, const char *device, uint64_t number, uint64_t place) {
@@ -116,6 +122,20 @@ enum status refuse(const struct request *request, const struct input *file, cons
 void put_refusal(struct json *object, const struct request *request, const char *device, uint64_t number) {
     struct finding finding = find_out(request, &request->files[0], device, number, 0);
     put_finding(object, request, &finding);
+}
+
+static struct finding nothing_found(const struct request *request) {
+    return find_out(request, &request->files[0], NULL, OFFLOAD_OK, 0);
+}
+
+void print_nothing_found(const struct request *request) {
+    struct finding finding = nothing_found(request);
+    print_finding(request, &finding);
+}
+
+void put_nothing_found(struct json *object, const struct request *request) {
+    struct finding finding = nothing_found(request);
+    put_advice(object, &finding);
 }
 
 static enum status fail(const struct request *request, const char *what, const char *path, const char *name, const char *why) {

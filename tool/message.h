@@ -11,6 +11,10 @@ enum status refuse(const struct request *request, const struct input *file, cons
 /* Puts the refusal of a device name into an object. */
 void put_refusal(struct json *object, const struct request *request, const char *device, uint64_t number);
 
+/* Says that no binary is found in the file of the request; or puts it into the object of the answer. */
+void print_nothing_found(const struct request *request);
+void put_nothing_found(struct json *object, const struct request *request);
+
 /* Says that a file cannot be read or written, and why. */
 enum status cannot_read(const struct request *request, const char *path, const char *why);
 enum status cannot_write(const struct request *request, const char *path, const char *why);

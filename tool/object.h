@@ -1,4 +1,4 @@
-/* What JSON objects about bundles have in common. */
+/* What JSON objects about files have in common. */
 #ifndef TOOL_OBJECT_H
 #define TOOL_OBJECT_H
 

@@ -89,6 +89,15 @@ static const struct refusal neither = {NAMES_DEVICE, NEITHER FITTING, EXPLAINS A
 
 static const struct refusal profile_neither = {NAMES_DEVICE, NEITHER PROFILE_FITTING, PROFILE_EXPLAINS ABOUT_BOTH, NULL};
 
+/* What is said of offload binaries. */
+static const struct refusal binaries_refusals[] = {
+    [OFFLOAD_OK] = {NAMES_FILE, "No whole offload binary stands in the file.", NULL, NULL},
+    [OFFLOAD_LENGTH] = {NAMES_FILE, "The file is longer than 1073741824 bytes.",
+                        "Cut it into parts that are not, and recover each: a binary through which a cut goes is skipped.", NULL},
+    [OFFLOAD_MANY] = {NAMES_BYTE, "There are more than 64 binaries in the file. The 65th begins at this byte.",
+                      "Cut the file in two there, and recover each part: head -c BYTE FILE, and tail -c +$((BYTE + 1)) FILE.", NULL},
+};
+
 static const struct refusal entry_faults[] = {
     [UNKNOWN_PROCESSOR] = {NAMES_ID, "The profile " AMDGPU " does not know the processor of the entry.",
                            "Make the bundle again with a processor that it knows (offload help profile), or leave out --profile.", NULL},
@@ -117,12 +126,15 @@ static struct refusal look_up(const struct refusal *table, size_t length, uint64
     return number < length && table[number].sentence != NULL ? table[number] : otherwise;
 }
 
-struct refusal refusal_of(const struct reading *reading, int patched, uint64_t number) {
+struct refusal refusal_of(const struct request *request, uint64_t number) {
     static const struct refusal unknown = {NAMES_FILE, "This tool does not know the number.", "Build the tool with the library that it calls.", NULL};
+    const char *profile = request->reading->profile;
     struct refusal refusal = look_up(refusals, sizeof refusals / sizeof *refusals, number, unknown);
-    if (patched && number == OFFLOAD_NONE)
-        return reading->profile == NULL ? neither : profile_neither;
-    if (reading->profile == NULL)
+    if (request->command->binaries)
+        return look_up(binaries_refusals, sizeof binaries_refusals / sizeof *binaries_refusals, number, unknown);
+    if (has_patch(request) && number == OFFLOAD_NONE)
+        return profile == NULL ? neither : profile_neither;
+    if (profile == NULL)
         return refusal;
     return look_up(profile_refusals, sizeof profile_refusals / sizeof *profile_refusals, number, refusal);
 }

@@ -2,11 +2,12 @@
 #ifndef TOOL_REFUSAL_H
 #define TOOL_REFUSAL_H
 
+#include "commands.h"
 #include "fault.h"
 #include "table.h"
 
 /* What a message names beside the file. */
-enum names { NAMES_FILE, NAMES_ENTRY, NAMES_ID, NAMES_IMAGE, NAMES_DEVICE };
+enum names { NAMES_FILE, NAMES_ENTRY, NAMES_ID, NAMES_IMAGE, NAMES_BYTE, NAMES_DEVICE };
 
 struct refusal {
     enum names names;
@@ -17,8 +18,8 @@ struct refusal {
     int (*concerns)(const struct reading *reading, struct row earlier, struct row row);
 };
 
-/* What a number means, where one bundle is asked or a patch before it. */
-struct refusal refusal_of(const struct reading *reading, int patched, uint64_t number);
+/* What a number means for what is asked. Of offload binaries OFFLOAD_OK means that none is found. */
+struct refusal refusal_of(const struct request *request, uint64_t number);
 
 /* What a fault of an entry's ID, or of a device name, means. */
 struct refusal fault_refusal(enum names names, enum fault_kind kind);

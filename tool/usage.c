@@ -34,6 +34,8 @@ static const char *value_of(const char *option, char ***words) {
 }
 
 static enum wish take_profile(const struct command *command, const char *name, struct request *request) {
+    if (command->binaries)
+        return wrong(command, "only commands that read bundles have the option", "--profile");
     if (*name == 0)
         return wrong(command, "no name after", "--profile");
     if (request->reading != &general_reading)

@@ -1,4 +1,4 @@
-//! The baseline's reader of offload binaries.
+//! The baseline's reader of offload binaries, and how it recovers them.
 
 use second::model::binaries::{Binary, Cursor, Pair};
 
@@ -33,8 +33,40 @@ struct CCursor {
     taken: u64,
 }
 
+#[repr(C)]
+struct CRecovered {
+    number: u64,
+    place: u64,
+    length: u64,
+    spans: u64,
+}
+
 extern "C" {
     fn baseline_next(bytes: *const u8, length: usize, cursor: *mut CCursor, read: *mut CBinary);
+    fn baseline_recover(
+        bytes: *const u8,
+        length: usize,
+        out: *mut u8,
+        room: usize,
+        spans: *mut [u64; 2],
+        span_room: usize,
+    ) -> CRecovered;
+}
+
+/// Number, place, length and spans.
+pub fn recover(binaries: &[u8], out: &mut [u8], spans: &mut [[u64; 2]]) -> [u64; 4] {
+    // SAFETY: the slices are as long as they say, and output and spans share no byte with the others.
+    let CRecovered { number, place, length, spans } = unsafe {
+        baseline_recover(
+            binaries.as_ptr(),
+            binaries.len(),
+            out.as_mut_ptr(),
+            out.len(),
+            spans.as_mut_ptr(),
+            spans.len(),
+        )
+    };
+    [number, place, length, spans]
 }
 
 /// How many binaries there are before the first answer that is none.

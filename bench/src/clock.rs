@@ -44,8 +44,20 @@ pub fn time(whose: Whose, mut jobs: Vec<Job>) -> Vec<Timed> {
             times.push(one_turn(whose, job, *batch).as_nanos() as f64 / *batch as f64);
         }
     }
+    medians(&times)
+}
+
+/// Of the times of each program, turn by turn.
+pub fn medians(times: &[Vec<f64>]) -> Vec<Timed> {
     let of_first = |turns: &Vec<f64>| median(turns.iter().zip(&times[0]).map(|(time, first)| time / first).collect());
     times.iter().map(|turns| Timed { time: median(turns.clone()), of_first: of_first(turns) }).collect()
+}
+
+/// The answer of one run, and its time in nanoseconds.
+pub fn once<T>(run: impl FnOnce() -> T) -> (T, f64) {
+    let start = processor_time(Whose::Thread);
+    let answer = black_box(run());
+    (answer, (processor_time(Whose::Thread) - start).as_nanos() as f64)
 }
 
 /// How many jobs fill a turn.

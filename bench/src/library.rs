@@ -30,24 +30,37 @@ extern "C" {
     fn offload_binaries_next_size(binaries: *const u8, length: usize, position: usize, taken: usize) -> u64;
 }
 
-/// The patch, the main bundle and the device name.
-macro_rules! lookup_numbers {
-    ($($name:ident)*) => {
+/// The calls of one family, which take the same.
+macro_rules! family {
+    ($taken:tt $($name:ident)*) => {
         extern "C" {
-            $(fn $name(
-                patch: *const u8,
-                patch_length: usize,
-                main: *const u8,
-                main_length: usize,
-                device: *const u8,
-                device_length: usize,
-            ) -> u64;)*
+            $(fn $name $taken -> u64;)*
         }
     };
 }
 
-lookup_numbers! {
+family! {
+    (
+        patch: *const u8,
+        patch_length: usize,
+        main: *const u8,
+        main_length: usize,
+        device: *const u8,
+        device_length: usize,
+    )
     offload_lookup_number offload_lookup_place offload_lookup_bundle offload_lookup_position offload_lookup_size
+}
+
+family! {
+    (
+        binaries: *const u8,
+        binaries_length: usize,
+        out: *mut u8,
+        out_length: usize,
+        spans: *mut [u64; 2],
+        span_count: usize,
+    )
+    offload_recover_number offload_recover_place offload_recover_length offload_recover_spans
 }
 
 pub fn check(bundle: &[u8]) -> u64 {
@@ -158,4 +171,16 @@ pub fn read_all(binaries: &[u8]) -> u64 {
         position += size as usize;
         taken += 1;
     }
+}
+
+type RecoverNumber = unsafe extern "C" fn(*const u8, usize, *mut u8, usize, *mut [u64; 2], usize) -> u64;
+
+/// Number, place, length and spans.
+pub const RECOVER: [RecoverNumber; 4] =
+    [offload_recover_number, offload_recover_place, offload_recover_length, offload_recover_spans];
+
+/// What one of these calls returns. A span has start and length.
+pub fn recover(call: RecoverNumber, binaries: &[u8], out: &mut [u8], spans: &mut [[u64; 2]]) -> u64 {
+    // SAFETY: the slices are as long as they say, and output and spans share no byte with the others.
+    unsafe { call(binaries.as_ptr(), binaries.len(), out.as_mut_ptr(), out.len(), spans.as_mut_ptr(), spans.len()) }
 }

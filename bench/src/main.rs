@@ -1,6 +1,6 @@
 //! Times the library: `bench TOOL FOLDER`, with the tool to run and a folder for files, or a part alone: `bench order`, the order of two IDs,
-//! `bench profile`, the profile for AMD's GPUs, `bench each`, picks for several names, or `bench lookup`, a patch before the main bundle. Prints
-//! tables for docs/BENCHMARKS.md.
+//! `bench profile`, the profile for AMD's GPUs, `bench each`, picks for several names, `bench lookup`, a patch before the main bundle, or
+//! `bench recover`, offload binaries in damaged files. Prints tables for docs/BENCHMARKS.md.
 
 mod baseline;
 mod baseline_binaries;
@@ -8,11 +8,13 @@ mod binaries;
 mod bundles;
 mod clock;
 mod each;
+mod hostile;
 mod library;
 mod llvm;
 mod lookup;
 mod order;
 mod profile;
+mod recover;
 mod sample;
 mod table;
 
@@ -25,9 +27,10 @@ fn main() {
         ["profile"] => profile::jobs(),
         ["each"] => each::jobs(),
         ["lookup"] => lookup::jobs(),
+        ["recover"] => recover::jobs(),
         [tool, work] => all(tool, work),
         _ => {
-            eprintln!("bench TOOL FOLDER, bench order, bench profile, bench each, or bench lookup");
+            eprintln!("bench TOOL FOLDER, bench order, bench profile, bench each, bench lookup, or bench recover");
             exit(2)
         }
     }
@@ -45,6 +48,7 @@ fn all(tool: &str, work: &str) {
     order::ids();
     bundles::copying();
     binaries::reading();
+    recover::jobs();
     llvm::jobs(tool, work);
 }
 

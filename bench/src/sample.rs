@@ -1,5 +1,6 @@
 //! Containers as LLVM's tools write them.
 
+use second::model::binary_writer::{write_binary, Content, PairParts};
 use second::model::bundle::{check, packed};
 use second::model::id::{canonical, meaning};
 use second::model::{integer, MIXED, OK};
@@ -163,13 +164,43 @@ fn accepted(ids: impl Iterator<Item = String>, image: usize) -> Vec<u8> {
 
 /// A bundle that a check answers with this number.
 fn answered(number: u64, ids: impl Iterator<Item = String>, image: usize) -> Vec<u8> {
-    let image: Vec<u8> = (0..image).map(|k| (k * 37 % 251) as u8).collect();
+    let image = image_of(image);
     let bundle = packed(&ids.map(|id| (id.into_bytes(), image.as_slice())).collect::<Vec<_>>());
     assert_eq!(check(&bundle).number, number);
     bundle
 }
 
+fn image_of(size: usize) -> Vec<u8> {
+    (0..size).map(|k| (k * 37 % 251) as u8).collect()
+}
+
 /// So many offload binaries: one of LLVM's packager, again and again. It has two string pairs.
 pub fn binaries(count: usize) -> Vec<u8> {
     BINARIES[0].bytes.repeat(count)
+}
+
+/// So many offload binaries with two string pairs each, and an image of this size.
+pub fn sequence(count: usize, image: usize) -> Vec<u8> {
+    let pair = |[key_start, key_length, text_start, text_length]: [u64; 4]| PairParts {
+        key_start,
+        key_length,
+        text_start,
+        text_length,
+    };
+    let pairs = [[0, 6, 6, 17], [23, 4, 27, 6]].map(pair).to_vec();
+    let content = Content { image_kind: 1, offload_kind: 3, flags: 0, pairs };
+    let mut binary = vec![0; image + 256];
+    let written = write_binary(&content, b"tripleamdgcn-amd-amdhsaarchgfx906", &image_of(image), &mut binary);
+    assert_eq!(written.number, OK);
+    binary.truncate(written.length as usize);
+    binary.repeat(count)
+}
+
+/// The sequence of so many binaries, all of one size, with a byte of every other header broken: in turn one of the eight of magic and version.
+pub fn broken_headers(mut sequence: Vec<u8>, count: usize) -> Vec<u8> {
+    let size = sequence.len() / count;
+    for broken in (0..count).step_by(2) {
+        sequence[size * broken + broken / 2 % 8] ^= 0xFF;
+    }
+    sequence
 }

@@ -42,8 +42,9 @@ pub fn digits(value: f64) -> String {
 }
 
 pub fn bytes(count: usize) -> String {
-    if count < 1 << 20 {
-        return format!("{} KiB", count >> 10);
+    match count {
+        count if count < 1 << 20 => format!("{} KiB", count >> 10),
+        count if count < 1 << 30 => format!("{} MiB", count >> 20),
+        count => format!("{} GiB", count >> 30),
     }
-    format!("{} MiB", count >> 20)
 }

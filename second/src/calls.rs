@@ -7,7 +7,8 @@ use crate::model::bundle_writer::Record;
 use crate::model::each::{Part, PickedEach, Slot};
 use crate::model::id::Reading::Profile;
 use crate::model::lookup::LookedUp;
-use crate::model::{binaries, binary_writer, bundle, bundle_writer, each, lookup, Written};
+use crate::model::recover::Recovered;
+use crate::model::{binaries, binary_writer, bundle, bundle_writer, each, lookup, recover, Written};
 
 /// A C call that writes returns one number of what it has to return. So it is called once for each, and writes each time.
 #[derive(Clone, Copy, Debug, PartialEq, Eq)]
@@ -50,6 +51,29 @@ impl EachField {
             EachField::Slots => picked.slots,
             EachField::Word => picked.word,
             EachField::Taken => picked.taken,
+        }
+    }
+}
+
+/// The same of recovering, which writes copies and spans.
+#[derive(Clone, Copy, Debug, PartialEq, Eq)]
+pub enum RecoverField {
+    Number,
+    Place,
+    Length,
+    Spans,
+}
+
+impl RecoverField {
+    pub const ALL: [RecoverField; 4] =
+        [RecoverField::Number, RecoverField::Place, RecoverField::Length, RecoverField::Spans];
+
+    pub fn of(self, recovered: Recovered) -> u64 {
+        match self {
+            RecoverField::Number => recovered.number,
+            RecoverField::Place => recovered.place,
+            RecoverField::Length => recovered.length,
+            RecoverField::Spans => recovered.spans,
         }
     }
 }
@@ -101,6 +125,16 @@ pub type BundleWriter = fn(&[Record], &[u8], &[u8], &mut [u8], Field) -> u64;
 pub type BinaryReader = fn(&[u8], Cursor) -> (Binary, Cursor);
 pub type BinaryWriter = fn(&Content, &[u8], &[u8], &mut [u8], Field) -> u64;
 
+/// The sequence, the output and the list of spans.
+pub type Recover = fn(&[u8], &mut [u8], &mut [Part], RecoverField) -> u64;
+
+/// Recovering, and the reader that it goes by.
+#[derive(Clone, Copy)]
+pub struct RecoverCalls {
+    pub recover: Recover,
+    pub read: BinaryReader,
+}
+
 /// The model in the library's place: for tests of the comparison itself.
 pub const MODEL: BundleCalls = BundleCalls {
     check: bundle::check,
@@ -127,3 +161,7 @@ pub const MODEL_BUNDLE_WRITER: BundleWriter =
 pub const MODEL_BINARY_READER: BinaryReader = binaries::next;
 pub const MODEL_BINARY_WRITER: BinaryWriter =
     |content, strings, image, out, field| field.of(binary_writer::write_binary(content, strings, image, out));
+pub const MODEL_RECOVER: RecoverCalls = RecoverCalls {
+    recover: |sequence, out, spans, field| field.of(recover::recover(sequence, out, spans)),
+    read: MODEL_BINARY_READER,
+};

@@ -4,6 +4,7 @@ pub mod binaries;
 pub mod bundles;
 pub mod each;
 pub mod lookup;
+pub mod recover;
 #[cfg(test)]
 mod tests;
 pub mod writers;
@@ -213,12 +214,20 @@ pub fn numbers_of<F: Copy, const N: usize>(
     let mut numbers = [0; N];
     for (number, field) in numbers.iter_mut().zip(fields) {
         *number = library(output.lend(expected.len()), field);
-        if let Some(at) = output.differs_at(expected) {
-            let library = format!("number {number}, and byte {at} of the output differs");
-            return Err(Difference { call, model: WRITTEN.to_string(), library });
-        }
+        wrote(call, *number, expected, output)?;
     }
     Ok(numbers)
+}
+
+/// The lent output must hold these bytes, where the call returned this number.
+pub fn wrote(call: &'static str, number: u64, expected: &[u8], output: &Output) -> Result<(), Difference> {
+    match output.differs_at(expected) {
+        None => Ok(()),
+        Some(at) => {
+            let library = format!("number {number}, and byte {at} of the output differs");
+            Err(Difference { call, model: WRITTEN.to_string(), library })
+        }
+    }
 }
 
 /// Compares a call that writes with the model: each number that it returns, and with each of them every byte of the lent output.

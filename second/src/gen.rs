@@ -11,6 +11,7 @@ pub mod lookup;
 pub mod pairs;
 pub mod random;
 pub mod records;
+pub mod recover;
 
 use crate::model::SIZE_LIMIT;
 use random::Random;

@@ -1,7 +1,7 @@
 //! The library's calls: those of include/offload.h, and those of crate `harness`, which has the reader and the two writers. A slice is a
 //! pointer and a length.
 
-use second::calls::{BundleCalls, EachCalls, EachField, Field, LookupCalls, ReadingCalls};
+use second::calls::{BundleCalls, EachCalls, EachField, Field, LookupCalls, ReadingCalls, RecoverCalls, RecoverField};
 use second::model::binaries::{Binary, Cursor, Pair};
 use second::model::binary_writer::Content;
 use second::model::bundle::{Checked, Located, Picked};
@@ -76,6 +76,18 @@ numbers! {
         device_length: usize,
     ):
     offload_lookup_number offload_lookup_place offload_lookup_bundle offload_lookup_position offload_lookup_size
+}
+
+numbers! {
+    (
+        binaries: *const u8,
+        length: usize,
+        out: *mut u8,
+        room: usize,
+        spans: *mut Part,
+        span_count: usize,
+    ):
+    offload_recover_number offload_recover_place offload_recover_length offload_recover_spans
 }
 
 #[link(name = "harness", kind = "static")]
@@ -179,6 +191,8 @@ pub const EACH: EachCalls = EachCalls { each: pick_each, pick: BUNDLES.pick };
 
 pub const LOOKUP: LookupCalls = LookupCalls { lookup, check: BUNDLES.check, pick: BUNDLES.pick };
 
+pub const RECOVER: RecoverCalls = RecoverCalls { recover, read: next };
+
 const LOOKUP_NUMBERS: [LookupNumber; 5] =
     [offload_lookup_number, offload_lookup_place, offload_lookup_bundle, offload_lookup_position, offload_lookup_size];
 
@@ -225,6 +239,17 @@ fn lookup(patch: &[u8], main: &[u8], device: &[u8]) -> LookedUp {
     };
     let [number, place, bundle, position, size] = LOOKUP_NUMBERS.map(number);
     LookedUp { number, place, bundle, position, size }
+}
+
+fn recover(binaries: &[u8], out: &mut [u8], spans: &mut [Part], field: RecoverField) -> u64 {
+    let call = match field {
+        RecoverField::Number => offload_recover_number,
+        RecoverField::Place => offload_recover_place,
+        RecoverField::Length => offload_recover_length,
+        RecoverField::Spans => offload_recover_spans,
+    };
+    // SAFETY: the slices are as long as they say, and output and spans share no byte with another.
+    unsafe { call(binaries.as_ptr(), binaries.len(), out.as_mut_ptr(), out.len(), spans.as_mut_ptr(), spans.len()) }
 }
 
 fn entry(bundle: &[u8], index: u64) -> Located {

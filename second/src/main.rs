@@ -10,6 +10,7 @@ use second::families::binaries::Binaries;
 use second::families::bundles::Bundles;
 use second::families::each::Each;
 use second::families::lookup::Lookup;
+use second::families::recover::Recover;
 use second::families::writers::Writers;
 use second::families::{Difference, Family, Report};
 use second::gen::random::Random;
@@ -54,6 +55,7 @@ fn families() -> Vec<Box<dyn Family>> {
         Box::new(Bundles::profile(linked::PROFILE)),
         Box::new(Each::new(linked::EACH)),
         Box::new(Lookup::new(linked::LOOKUP)),
+        Box::new(Recover::new(linked::RECOVER)),
     ]
 }
 

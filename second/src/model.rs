@@ -13,6 +13,7 @@ pub mod lookup;
 pub mod processors;
 #[cfg(test)]
 mod properties;
+pub mod recover;
 
 // "Numbers that come back".
 pub const OK: u64 = 0;

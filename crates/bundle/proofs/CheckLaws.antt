@@ -15,16 +15,8 @@ use Rattle.wire.proofs.Bools.{byBool, and-both, both-and, or-neither, neither-o
 use Rattle.wire.proofs.StopLaws.{⨾-next, ⨾-stop}
 use Rattle.entry_id.specs.IdRules.{IdRules}
 use Rattle.bundle.specs.Table.{magic, count}
-use Rattle.bundle.specs.Check.{badRow, outside, overlapStop, unrefused, refusedOf, headStop, tableStop, rowsStop, bundleStop}
+use Rattle.bundle.specs.Check.{badRow, outside, overlapStop, refusedOf, headStop, tableStop, rowsStop, bundleStop}
 use Rattle.bundle.specs.Accepted.{RowFits, Inside}
-
-pub unrefused-go : (t : Stop) (v : ℕ) → t .number ≡ 0 → unrefused t v ≡ v
-unfolding unrefused
-unrefused-go t v e = rw (e, unrefused)
-
-pub unrefused-stop : (t : Stop) (v k : ℕ) → t .number ≡ suc k → unrefused t v ≡ 0
-unfolding unrefused
-unrefused-stop t v k e = rw (e, unrefused)
 
 -- ---- which of two bundles is refused
 

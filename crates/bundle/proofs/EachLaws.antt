@@ -14,26 +14,23 @@ use Rattle.wire.specs.Bits.{bitsBelow, countBelow, bitAt}
 use Rattle.wire.specs.Bytes.{empty}
 use Rattle.wire.specs.First.{first, anyBelow}
 use Rattle.wire.specs.Lists.{any, tab, distinct}
-use Rattle.wire.specs.Stop.{Stop, go, stop, _⨾_, stopIf, stopWhen}
+use Rattle.wire.specs.Stop.{Stop, go, stop, _⨾_, stopIf, stopWhen, unrefused, over, output}
 use Rattle.wire.proofs.Bools.{and-both, both-and, eqb-sym}
 use Rattle.wire.proofs.BitLaws.{bits-exact, ones-bits, count-same, count-distinct}
 use Rattle.wire.proofs.FirstLaws.{first-at, any-some, any-suc}
-use Rattle.wire.proofs.StopLaws.{⨾-both, ⨾-left, ⨾-right, ⨾-stop, stopIf-go, stopIf-no, stopIf-first, stopIf-second}
+use Rattle.wire.proofs.StopLaws.{⨾-both, ⨾-left, ⨾-right, ⨾-stop, stopIf-go, stopIf-no, stopIf-first, stopIf-second, unrefused-go, unrefused-stop, output-stop, over-tab, length-over}
 use Rattle.wire.proofs.TabLaws.{length-tab, getD-tab}
 use Rattle.entry_id.specs.IdRules.{IdRules}
 use Rattle.bundle.specs.Table.{count}
-use Rattle.bundle.specs.Check.{bundleStop, unrefused, check}
+use Rattle.bundle.specs.Check.{bundleStop, check}
 use Rattle.bundle.specs.Pick.{pick}
 use Rattle.bundle.specs.Accepted.{Accepted}
-use Rattle.bundle.specs.Normal.{over, output}
 use Rattle.bundle.specs.Theorems.{refusal}
 use Rattle.bundle.specs.Each.{startOf, lengthOf, partOf, slotOf, took, indices, noPicks, pickAt, taken, eachStop, pickEach, slotsAfter, Took, Slotted, answer, after, EachExact}
 use Rattle.bundle.specs.declared.Picked.{Picked}
 use Rattle.bundle.specs.declared.PickedEach.{PickedEach}
-use Rattle.bundle.proofs.CheckLaws.{unrefused-go, unrefused-stop}
 use Rattle.bundle.proofs.AcceptLaws.{accepted, accepted-go, past-check}
 use Rattle.bundle.proofs.PickLaws.{pick-query, picked-lt}
-use Rattle.bundle.proofs.NormalLaws.{output-stop, over-tab, length-over}
 
 -- ---- the entries taken, as a word and a number, as a list and as a test
 

@@ -9,7 +9,7 @@ use lib.ListN.{length, length-append}
 use borrow.Author.Tests.{ltb-true, ltb-false}
 use Rattle.wire.specs.Bytes.{bytes}
 use Rattle.wire.specs.First.{first, anyBelow}
-use Rattle.wire.specs.Stop.{_⨾_, stopIf, stopAt, stopWhen, earlier}
+use Rattle.wire.specs.Stop.{_⨾_, stopIf, stopAt, stopWhen, earlier, unrefused}
 use Rattle.wire.proofs.Bools.{byBool, clash, is-true}
 use Rattle.wire.proofs.FirstLaws.{any-some}
 use Rattle.wire.proofs.StopLaws.{⨾-stop, earlier-some}
@@ -20,7 +20,7 @@ use Rattle.entry_id.specs.Theorems.{hipId, hipv4Id}
 use Rattle.entry_id.proofs.RuleLaws.{idRules-lawful}
 use Rattle.entry_id.proofs.Theorems.{entryIds, oneKind}
 use Rattle.bundle.specs.Table.{count, row}
-use Rattle.bundle.specs.Check.{meanSame, bundleStop, unrefused, check}
+use Rattle.bundle.specs.Check.{meanSame, bundleStop, check}
 use Rattle.bundle.specs.Pick.{compatibleAt, chosen, pickStop, pick}
 use Rattle.bundle.specs.EitherSpelling.{EitherSpelling}
 use Rattle.bundle.specs.declared.Picked.{Picked}

@@ -6,13 +6,13 @@ use mathlib.Core.List.{List}
 use lib.ListN.{length, take, drop, length-drop}
 use lib.Seq.{length-take-le}
 use borrow.Author.Tests.{ltb-true, ltb-false, lt-ltb, le-ltb, not-true}
-use Rattle.wire.specs.Stop.{Stop, go, stop, _⨾_, stopIf, stopWhen}
+use Rattle.wire.specs.Stop.{Stop, go, stop, _⨾_, stopIf, stopWhen, unrefused}
 use Rattle.wire.specs.Word.{word}
 use Rattle.wire.proofs.Bools.{not-no, yes-not}
-use Rattle.wire.proofs.StopLaws.{⨾-both, ⨾-left, ⨾-right, ⨾-stop, stopIf-go, stopIf-no, stopIf-yes}
+use Rattle.wire.proofs.StopLaws.{⨾-both, ⨾-left, ⨾-right, ⨾-stop, stopIf-go, stopIf-no, stopIf-yes, unrefused-stop}
 use Rattle.entry_id.specs.IdRules.{IdRules}
 use Rattle.bundle.specs.Table.{count, rowStart, row, rowAt, tableEnd}
-use Rattle.bundle.specs.Check.{bundleStop, unrefused, check}
+use Rattle.bundle.specs.Check.{bundleStop, check}
 use Rattle.bundle.specs.Entry.{imageOf}
 use Rattle.bundle.specs.Pick.{chosen, pickStop, pick}
 use Rattle.bundle.specs.Accepted.{RowFits, Accepted}
@@ -20,7 +20,6 @@ use Rattle.bundle.specs.Theorems.{imageAt}
 use Rattle.bundle.specs.EntryAt.{entryStop, entryAt, unlocated, located, pickOf, Names, EntryExact}
 use Rattle.bundle.specs.declared.Located.{Located}
 use Rattle.bundle.specs.declared.Picked.{Picked}
-use Rattle.bundle.proofs.CheckLaws.{unrefused-stop}
 use Rattle.bundle.proofs.AcceptLaws.{accepted, accepted-go, past-check}
 use Rattle.bundle.proofs.PickLaws.{picked-asked, chosen-lt, pick-image}
 use Rattle.bundle.proofs.TableLaws.{rowStart-step, rowStart-mono}

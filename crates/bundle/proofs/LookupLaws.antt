@@ -8,19 +8,19 @@ use mathlib.Core.List.{List, []}
 use lib.ListN.{length, take, drop}
 use borrow.Author.Tests.{not-true}
 use Rattle.wire.specs.Bytes.{empty}
-use Rattle.wire.specs.Stop.{Stop, go, stop, _⨾_, stopIf, stopWhen}
+use Rattle.wire.specs.Stop.{Stop, go, stop, _⨾_, stopIf, stopWhen, unrefused}
 use Rattle.wire.proofs.Bools.{byBool, or-neither, not-no, yes-not}
 use Rattle.wire.proofs.FirstLaws.{none-any, any-none}
-use Rattle.wire.proofs.StopLaws.{⨾-both, ⨾-left, ⨾-right, ⨾-next, ⨾-stop, stopIf-go, stopIf-no, stopIf-first, stopIf-second}
+use Rattle.wire.proofs.StopLaws.{⨾-both, ⨾-left, ⨾-right, ⨾-next, ⨾-stop, stopIf-go, stopIf-no, stopIf-first, stopIf-second, unrefused-stop}
 use Rattle.entry_id.specs.IdRules.{IdRules, Lawful}
 use Rattle.bundle.specs.Table.{count, tableEnd}
-use Rattle.bundle.specs.Check.{bundleStop, unrefused, refusedOf, check}
+use Rattle.bundle.specs.Check.{bundleStop, refusedOf, check}
 use Rattle.bundle.specs.Pick.{compatibleAt, pick, pickedImage}
 use Rattle.bundle.specs.Accepted.{Accepted}
 use Rattle.bundle.specs.Theorems.{refusal, Asked}
 use Rattle.bundle.specs.Lookup.{notFound, foundIn, has, lookupStop, bundleOf, answering, lookup, lookupImage, LookupExact}
 use Rattle.bundle.specs.declared.Found.{Found}
-use Rattle.bundle.proofs.CheckLaws.{Own, unrefused-stop, first-refused, second-refused, none-refused}
+use Rattle.bundle.proofs.CheckLaws.{Own, first-refused, second-refused, none-refused}
 use Rattle.bundle.proofs.AcceptLaws.{accepted, accepted-go, past-check}
 use Rattle.bundle.proofs.PickLaws.{pick-none, pickStop-go, picked-asked, picked-any}
 use Rattle.bundle.proofs.Theorems.{pick-exact}

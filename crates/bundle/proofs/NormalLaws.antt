@@ -1,26 +1,24 @@
 -- The normal form of an accepted bundle: its length, that it reads back sorted, and what normalising gives back. Assumes nothing.
-use Prim.Native.Nat.{ℕ, suc, _+_, _^_, _<_, _≤_}
+use Prim.Native.Nat.{ℕ, _+_, _^_, _<_, _≤_}
 use native.Mathlib.Omega.{arith}
 use mathlib.Core.Path.{_≡_, sym, ap, _∙_}
-use mathlib.Core.List.{List, _++_}
-use lib.ListN.{length, getD, drop, length-append, length-drop}
+use mathlib.Core.List.{List}
+use lib.ListN.{length, getD}
 use borrow.Author.Tests.{le-ltb}
 use Rattle.wire.specs.Limit.{limit}
-use Rattle.wire.specs.Lists.{tab}
 use Rattle.wire.specs.Order.{sortBy}
 use Rattle.wire.proofs.ListLaws.{total-most}
-use Rattle.wire.specs.Stop.{Stop, go}
+use Rattle.wire.specs.Stop.{go, unrefused, output}
 use Rattle.wire.proofs.StopLaws.{⨾-both, stopIf-go}
-use Rattle.wire.proofs.TabLaws.{length-tab}
 use Rattle.wire.proofs.SortLaws.{sort-in, sort-out, sort-length, sort-total, sort-distinct, sort-again, sort-same, same-sort}
 use Rattle.entry_id.specs.IdRules.{IdRules, Lawful}
 use Rattle.bundle.specs.Table.{count, row}
-use Rattle.bundle.specs.Check.{unrefused, check}
+use Rattle.bundle.specs.Check.{check}
 use Rattle.bundle.specs.Entry.{Entry, noEntry, entryOf, entries}
 use Rattle.bundle.specs.Pick.{pick}
 use Rattle.bundle.specs.Accepted.{Accepted}
 use Rattle.bundle.specs.Layout.{entrySize, packedLength, encode, Writable, ReadsBack}
-use Rattle.bundle.specs.Normal.{byId, roomStop, answer, over, output, normal, normalLength, normaliseStop, normalise, normalised, RefusalWritesNothing}
+use Rattle.bundle.specs.Normal.{byId, roomStop, answer, normal, normalLength, normaliseStop, normalise, normalised, RefusalWritesNothing}
 use Rattle.bundle.specs.Demand.{SamePick, Writes, Kept}
 use Rattle.bundle.proofs.AcceptLaws.{accepted-go}
 use Rattle.bundle.proofs.EntryLaws.{length-imageOf, entries-length, entries-at, entries-writable}
@@ -29,19 +27,6 @@ use Rattle.bundle.proofs.SameLaws.{Holds, pickStop-entries, pickedImage
 use Rattle.bundle.proofs.Theorems.{check-exact}
 
 -- ---- a call that writes
-
-module _ {A : Type 0} where
-  pub output-stop : (t : Stop) (bytes out : List A) (k : ℕ) → t .number ≡ suc k → output t bytes out ≡ out
-  unfolding output
-  output-stop t bytes out k e = rw (e, output)
-
-  pub over-tab : (n : ℕ) (f : ℕ → A) (out : List A) → over (tab n f) out ≡ tab n f ++ drop n out
-  unfolding over
-  over-tab n f out = ap (λ k. tab n f ++ drop k out) (length-tab n f)
-
-  pub length-over : (items out : List A) → length items ≤ length out → length (over items out) ≡ length out
-  unfolding over
-  length-over items out h = rw (length-append items (drop (length items) out), length-drop (length items) out) (omega arith)
 
 pub roomStop-go : (len room : ℕ) → len ≤ limit → len ≤ room → roomStop len room ≡ go
 unfolding roomStop

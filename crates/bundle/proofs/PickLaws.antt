@@ -8,18 +8,17 @@ use lib.Dec.{ltb}
 use borrow.Author.Tests.{ltb-true, ltb-false}
 use Rattle.wire.specs.Bytes.{empty}
 use Rattle.wire.specs.First.{anyBelow}
-use Rattle.wire.specs.Stop.{Stop, go, stop, _⨾_, stopIf, stopWhen}
+use Rattle.wire.specs.Stop.{Stop, go, stop, _⨾_, stopIf, stopWhen, unrefused}
 use Rattle.wire.proofs.Bools.{byBool, not-no, yes-not}
 use Rattle.wire.proofs.FirstLaws.{first-at, any-some, any-none}
-use Rattle.wire.proofs.StopLaws.{⨾-both, ⨾-left, ⨾-right, ⨾-stop, stopIf-go, stopIf-no}
+use Rattle.wire.proofs.StopLaws.{⨾-both, ⨾-left, ⨾-right, ⨾-stop, stopIf-go, stopIf-no, unrefused-stop}
 use Rattle.entry_id.specs.IdRules.{IdRules, Lawful}
 use Rattle.bundle.specs.Table.{count, row}
-use Rattle.bundle.specs.Check.{bundleStop, badId, meanSame, mix, unrefused}
+use Rattle.bundle.specs.Check.{bundleStop, badId, meanSame, mix}
 use Rattle.bundle.specs.Pick.{compatibleAt, chosen, pickStop, pick}
 use Rattle.bundle.specs.Accepted.{Accepted}
 use Rattle.bundle.specs.Theorems.{refusal, imageAt, Asked}
 use Rattle.bundle.specs.declared.Picked.{Picked}
-use Rattle.bundle.proofs.CheckLaws.{unrefused-stop}
 use Rattle.bundle.proofs.AcceptLaws.{accepted, accepted-go}
 
 module _ (R : IdRules) (s device : List ℕ) where

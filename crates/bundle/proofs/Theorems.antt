@@ -7,20 +7,20 @@ use mathlib.Core.List.{List}
 use lib.ListN.{length, getD, take, drop}
 use lib.Seq.{getD-take}
 use Rattle.wire.specs.Bytes.{empty}
-use Rattle.wire.specs.Stop.{Stop}
+use Rattle.wire.specs.Stop.{Stop, unrefused}
 use Rattle.wire.specs.First.{anyBelow}
 use Rattle.wire.proofs.Bools.{byBool}
 use Rattle.wire.proofs.FirstLaws.{none-any}
-use Rattle.wire.proofs.StopLaws.{⨾-left, ⨾-right, ⨾-both}
+use Rattle.wire.proofs.StopLaws.{⨾-left, ⨾-right, ⨾-both, unrefused-stop}
 use Rattle.entry_id.specs.IdRules.{IdRules, Lawful}
 use Rattle.bundle.specs.Table.{count, row, tableEnd}
-use Rattle.bundle.specs.Check.{headStop, tableStop, bundleStop, unrefused, check}
+use Rattle.bundle.specs.Check.{headStop, tableStop, bundleStop, check}
 use Rattle.bundle.specs.Entry.{noEntry, imageOf, entryOf, entries}
 use Rattle.bundle.specs.Pick.{compatibleAt, chosen, pickStop, pick}
 use Rattle.bundle.specs.Accepted.{Accepted, Inside}
 use Rattle.bundle.specs.Theorems.{CheckExact, refusal, imageAt, Asked, PickExact, FramedExact, TableDecides}
 use Rattle.bundle.specs.declared.Picked.{Picked}
-use Rattle.bundle.proofs.CheckLaws.{unrefused-stop, bundleStop-own}
+use Rattle.bundle.proofs.CheckLaws.{bundleStop-own}
 use Rattle.bundle.proofs.AcceptLaws.{framed, head-go, table-go, accepted, accepted-go}
 use Rattle.bundle.proofs.EntryLaws.{entries-at}
 use Rattle.bundle.proofs.PickLaws.{pick-refused, pick-query, pick-none, pickStop-go, picked-asked, chosen-lt, chosen-compatible, pick-image, compatible-one, pick-found}

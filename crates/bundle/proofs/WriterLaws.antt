@@ -5,15 +5,14 @@ use mathlib.Core.List.{List}
 use lib.ListN.{length, getD}
 use borrow.Author.Tests.{ltb-false}
 use Rattle.wire.specs.Limit.{limit}
-use Rattle.wire.specs.Stop.{go, _⨾_}
+use Rattle.wire.specs.Stop.{go, _⨾_, unrefused, output}
 use Rattle.wire.proofs.StopLaws.{⨾-next, ⨾-left, ⨾-right, stopIf-no}
 use Rattle.entry_id.specs.IdRules.{IdRules, Lawful}
-use Rattle.bundle.specs.Check.{unrefused}
 use Rattle.bundle.specs.Accepted.{Sound}
 use Rattle.bundle.specs.Entry.{Entry, noEntry}
 use Rattle.bundle.specs.Records.{rowsOf, recordsStop}
 use Rattle.bundle.specs.Layout.{packedLength, encode, Writable, ReadsBack}
-use Rattle.bundle.specs.Normal.{roomStop, answer, output}
+use Rattle.bundle.specs.Normal.{roomStop, answer}
 use Rattle.bundle.specs.Writer.{entriesGiven, writeStop, write, writtenTo, WriterReadsBack, WritesRead}
 use Rattle.bundle.specs.declared.EntryRecord.{EntryRecord}
 use Rattle.bundle.proofs.AcceptLaws.{sound}

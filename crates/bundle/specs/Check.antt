@@ -8,7 +8,7 @@ use lib.Dec.{leb, ltb, eqb}
 use Rattle.wire.specs.Limit.{limit}
 use Rattle.wire.specs.Bytes.{same, empty}
 use Rattle.wire.specs.Word.{word}
-use Rattle.wire.specs.Stop.{Stop, _⨾_, stopIf, stopAt, earlier}
+use Rattle.wire.specs.Stop.{Stop, _⨾_, stopIf, stopAt, earlier, unrefused}
 use Rattle.entry_id.specs.IdRules.{IdRules}
 use Rattle.bundle.specs.Table.{Row, magic, count, rowStart, row, tableEnd}
 use Rattle.bundle.specs.declared.Checked.{Checked}
@@ -50,10 +50,6 @@ headStop s =
 -- 4 TABLE
 unfoldable pub tableStop : List ℕ → Stop
 tableStop s = stopAt 4 (count s) (λ i. badRow s (rowStart s i))
-
--- "A refusal .. has 0 in every other returned number": v where nothing is refused, else 0
-unfoldable pub unrefused : Stop → ℕ → ℕ
-unrefused t v = elim (t .number) [ zero ↦ v | suc k ↦ 0 ]
 
 -- "names the bundle by the same number": of two bundles that are checked one after the other, 1 where the first is refused, 2 where only the second is;
 -- else `other`

@@ -6,13 +6,14 @@ use mathlib.Core.Logic.{_↔_}
 use mathlib.Core.List.{List, map, List·Memᴰ}
 use lib.ListN.{length}
 use Rattle.wire.specs.Limit.{limit}
+use Rattle.wire.specs.Stop.{over}
 use Rattle.entry_id.specs.IdRules.{IdRules}
 use Rattle.entry_id.specs.Meaning.{Feature, Meaning, piecesOf, feature}
 use Rattle.bundle.specs.Table.{count, row}
 use Rattle.bundle.specs.Check.{check}
 use Rattle.bundle.specs.Entry.{imageOf}
 use Rattle.bundle.specs.Pick.{pick, pickedImage}
-use Rattle.bundle.specs.Normal.{over, normal, normalise, normalised}
+use Rattle.bundle.specs.Normal.{normal, normalise, normalised}
 
 -- ---- the same entries
 

@@ -10,13 +10,12 @@ use lib.ListN.{length, getD, take, drop}
 use Rattle.wire.specs.Bits.{bitsBelow, countBelow, bitAt}
 use Rattle.wire.specs.First.{anyBelow}
 use Rattle.wire.specs.Lists.{tab, distinct}
-use Rattle.wire.specs.Stop.{Stop, _⨾_, stopIf}
+use Rattle.wire.specs.Stop.{Stop, _⨾_, stopIf, unrefused, output}
 use Rattle.entry_id.specs.IdRules.{IdRules}
 use Rattle.bundle.specs.Table.{count}
-use Rattle.bundle.specs.Check.{bundleStop, unrefused, check}
+use Rattle.bundle.specs.Check.{bundleStop, check}
 use Rattle.bundle.specs.Pick.{pick}
 use Rattle.bundle.specs.Accepted.{Accepted}
-use Rattle.bundle.specs.Normal.{output}
 use Rattle.bundle.specs.Theorems.{refusal}
 use Rattle.bundle.specs.declared.Picked.{Picked}
 use Rattle.bundle.specs.declared.PickedEach.{PickedEach}

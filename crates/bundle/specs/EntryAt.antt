@@ -6,10 +6,10 @@ use mathlib.Core.Bool.{not}
 use mathlib.Core.List.{List}
 use lib.Dec.{ltb}
 use lib.ListN.{length, take, drop}
-use Rattle.wire.specs.Stop.{Stop, _⨾_, stopIf}
+use Rattle.wire.specs.Stop.{Stop, _⨾_, stopIf, unrefused}
 use Rattle.entry_id.specs.IdRules.{IdRules}
 use Rattle.bundle.specs.Table.{count, rowStart, row, tableEnd}
-use Rattle.bundle.specs.Check.{bundleStop, unrefused, check}
+use Rattle.bundle.specs.Check.{bundleStop, check}
 use Rattle.bundle.specs.Entry.{imageOf}
 use Rattle.bundle.specs.Pick.{pick}
 use Rattle.bundle.specs.Accepted.{Accepted}

@@ -9,10 +9,10 @@ use lib.Dec.{eqb}
 use lib.ListN.{length, take, drop}
 use Rattle.wire.specs.Bytes.{empty}
 use Rattle.wire.specs.First.{anyBelow}
-use Rattle.wire.specs.Stop.{Stop, _⨾_, stopIf}
+use Rattle.wire.specs.Stop.{Stop, _⨾_, stopIf, unrefused}
 use Rattle.entry_id.specs.IdRules.{IdRules}
 use Rattle.bundle.specs.Table.{count, tableEnd}
-use Rattle.bundle.specs.Check.{bundleStop, unrefused, refusedOf, check}
+use Rattle.bundle.specs.Check.{bundleStop, refusedOf, check}
 use Rattle.bundle.specs.Pick.{compatibleAt, pick, pickedImage}
 use Rattle.bundle.specs.Accepted.{Accepted}
 use Rattle.bundle.specs.Theorems.{refusal}

@@ -1,14 +1,14 @@
 -- The normal form of a bundle, and what normalising gives back. Definitions, and the statement that a refusal writes nothing.
-use Prim.Native.Nat.{ℕ, zero, suc}
+use Prim.Native.Nat.{ℕ, suc}
 use mathlib.Core.Path.{_≡_}
-use mathlib.Core.List.{List, _++_}
+use mathlib.Core.List.{List}
 use lib.Dec.{ltb}
-use lib.ListN.{length, drop}
+use lib.ListN.{length}
 use Rattle.wire.specs.Limit.{limit}
 use Rattle.wire.specs.Order.{sortBy}
-use Rattle.wire.specs.Stop.{Stop, _⨾_, stopIf}
+use Rattle.wire.specs.Stop.{Stop, _⨾_, stopIf, unrefused, output}
 use Rattle.entry_id.specs.IdRules.{IdRules}
-use Rattle.bundle.specs.Check.{unrefused, bundleStop}
+use Rattle.bundle.specs.Check.{bundleStop}
 use Rattle.bundle.specs.Entry.{Entry, entries}
 use Rattle.bundle.specs.Layout.{packedLength, encode}
 use Rattle.bundle.specs.declared.Written.{Written}
@@ -22,14 +22,6 @@ roomStop len room = stopIf 11 (ltb limit len) ⨾ stopIf 12 (ltb room len)
 -- what is returned: "An accepted call has place 0; .. a call that writes the length written"
 unfoldable pub answer : Stop → ℕ → Written
 answer t len = record { number = t .number; place = t .place; length = unrefused t len }
-
--- bytes, or items, at the start of a lent output: "Bytes of the lent output beyond that length stay as they were."
-unfoldable pub over : {A : Type 0} → List A → List A → List A
-over bytes out = bytes ++ drop (length bytes) out
-
--- the lent output after the call: "A refusal .. writes no output"
-unfoldable pub output : {A : Type 0} → Stop → List A → List A → List A
-output t bytes out = elim (t .number) [ zero ↦ over bytes out | suc k ↦ out ]
 
 -- ---- normalising
 

@@ -5,10 +5,10 @@ use mathlib.Core.List.{List}
 use lib.ListN.{take, drop}
 use Rattle.wire.specs.Bytes.{empty}
 use Rattle.wire.specs.First.{first, anyBelow}
-use Rattle.wire.specs.Stop.{Stop, _⨾_, stopIf}
+use Rattle.wire.specs.Stop.{Stop, _⨾_, stopIf, unrefused}
 use Rattle.entry_id.specs.IdRules.{IdRules}
 use Rattle.bundle.specs.Table.{count, row}
-use Rattle.bundle.specs.Check.{bundleStop, unrefused}
+use Rattle.bundle.specs.Check.{bundleStop}
 use Rattle.bundle.specs.declared.Picked.{Picked}
 
 module _ (R : IdRules) where

@@ -3,12 +3,12 @@ use Prim.Native.Nat.{ℕ, _<_}
 use mathlib.Core.Path.{_≡_}
 use mathlib.Core.List.{List}
 use lib.ListN.{length, getD}
-use Rattle.wire.specs.Stop.{Stop, _⨾_}
+use Rattle.wire.specs.Stop.{Stop, _⨾_, over, output}
 use Rattle.entry_id.specs.IdRules.{IdRules}
 use Rattle.bundle.specs.Entry.{Entry, noEntry, entryOf, entriesOf, entries}
 use Rattle.bundle.specs.Records.{rowsOf, recordsStop}
 use Rattle.bundle.specs.Layout.{packedLength, encode, ReadsBack}
-use Rattle.bundle.specs.Normal.{roomStop, answer, over, output}
+use Rattle.bundle.specs.Normal.{roomStop, answer}
 use Rattle.bundle.specs.declared.EntryRecord.{EntryRecord}
 use Rattle.bundle.specs.declared.Written.{Written}
 

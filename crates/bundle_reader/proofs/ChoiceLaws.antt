@@ -9,13 +9,13 @@ use lib.Dec.{eqb}
 use borrow.Author.Tests.{lt-ltb, le-ltb, eq-eqb, ne-eqb}
 use Rattle.wire.specs.Bytes.{empty}
 use Rattle.wire.specs.First.{first, anyBelow}
-use Rattle.wire.specs.Stop.{Stop, stop, _⨾_, stopIf, stopWhen}
+use Rattle.wire.specs.Stop.{Stop, stop, _⨾_, stopIf, stopWhen, unrefused}
 use Rattle.wire.proofs.ByteLaws.{length-empty, length-some}
 use Rattle.wire.proofs.FirstLaws.{first-same, any-same}
-use Rattle.wire.proofs.StopLaws.{⨾-go}
+use Rattle.wire.proofs.StopLaws.{⨾-go, unrefused-go}
 use Rattle.entry_id.specs.IdRules.{IdRules, Lawful}
 use Rattle.bundle.specs.Table.{count, rowStart, row}
-use Rattle.bundle.specs.Check.{bundleStop, unrefused, check}
+use Rattle.bundle.specs.Check.{bundleStop, check}
 use Rattle.bundle.specs.Pick.{compatibleAt, chosen, pickStop, pick}
 use Rattle.bundle.specs.Accepted.{RowFits, Accepted}
 use Rattle.bundle.specs.Theorems.{refusal, imageAt}
@@ -26,7 +26,6 @@ use Rattle.bundle_reader.specs.declared.Choice.{Choice}
 use Rattle.bundle.specs.declared.Checked.{Checked}
 use Rattle.bundle.specs.declared.EntryRecord.{EntryRecord}
 use Rattle.bundle.specs.declared.Picked.{Picked}
-use Rattle.bundle.proofs.CheckLaws.{unrefused-go}
 use Rattle.bundle.proofs.AcceptLaws.{accepted, accepted-go}
 use Rattle.bundle.proofs.PickLaws.{refused-by, pick-refused, pick-image, picked-lt}
 use Rattle.bundle_reader.proofs.RowLaws.{row-is}

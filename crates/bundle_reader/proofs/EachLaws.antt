@@ -16,21 +16,19 @@ use lib.Seq.{drop-cons, set-at, take-all, length-take-le}
 use Rattle.wire.specs.Bits.{bitsBelow}
 use Rattle.wire.specs.First.{anyBelow}
 use Rattle.wire.specs.Lists.{tab}
-use Rattle.wire.specs.Stop.{Stop, go, stop, _⨾_, stopIf, stopWhen}
+use Rattle.wire.specs.Stop.{Stop, go, stop, _⨾_, stopIf, stopWhen, unrefused, over, output}
 use Rattle.wire.proofs.BitLaws.{bits-lt, bits-same, bits-none, bits-one, bits-or, ones-bits}
 use Rattle.wire.proofs.FirstLaws.{any-none}
-use Rattle.wire.proofs.StopLaws.{⨾-first, ⨾-next, ⨾-both, ⨾-left, stopIf-go}
+use Rattle.wire.proofs.StopLaws.{⨾-first, ⨾-next, ⨾-both, ⨾-left, stopIf-go, over-tab, length-over}
 use Rattle.wire.proofs.TabLaws.{length-tab, tab-next}
 use Rattle.entry_id.specs.IdRules.{IdRules}
 use Rattle.bundle.specs.Accepted.{RowFits}
-use Rattle.bundle.specs.Check.{unrefused, check}
+use Rattle.bundle.specs.Check.{check}
 use Rattle.bundle.specs.Pick.{pick}
-use Rattle.bundle.specs.Normal.{over, output}
 use Rattle.bundle.specs.Each.{startOf, lengthOf, partOf, slotOf, took, pickAt, taken, noPicks, eachStop, pickEach, slotsAfter, Slotted}
 use Rattle.bundle.specs.Table.{rowStart}
 use Rattle.bundle.specs.declared.PickedEach.{PickedEach}
 use Rattle.bundle.specs.declared.Checked.{Checked}
-use Rattle.bundle.proofs.NormalLaws.{over-tab, length-over}
 use Rattle.bundle.proofs.EachLaws.{refused-by, each-is, each-kept, each-goes}
 use Rattle.bundle_reader.specs.Examined.{heldRow}
 use Rattle.bundle_reader.specs.Slots.{startsIn, Pickable, choice, choicePick, takes}

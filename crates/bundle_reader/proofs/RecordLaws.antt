@@ -12,14 +12,13 @@ use Rattle.wire.specs.First.{first}
 use Rattle.wire.specs.Stop.{go, Stop, stop, _⨾_, stopIf, stopWhen, stopAt}
 use Rattle.wire.proofs.Bools.{byBool, and-both, both-and, not-no, yes-not}
 use Rattle.wire.proofs.FirstLaws.{first-none}
-use Rattle.wire.proofs.StopLaws.{⨾-go, ⨾-next, ⨾-assoc, ⨾-left, ⨾-right, stopIf-no, stopAt-no, stopAt-found, stopAt-clear}
+use Rattle.wire.proofs.StopLaws.{⨾-go, ⨾-next, ⨾-assoc, ⨾-left, ⨾-right, stopIf-no, stopAt-no, stopAt-found, stopAt-clear, unrefused-go}
 use Rattle.entry_id.specs.IdRules.{IdRules, Lawful}
 use Rattle.bundle.specs.Check.{badId, rowsStop}
 use Rattle.bundle.specs.Records.{recordAt, rowsOf, badPart, recordsStop}
 use Rattle.bundle_reader.specs.Slots.{Judged}
 use Rattle.bundle_reader.specs.Examined.{filled, slots, form, formLength, made, examinedRecords, formsOfRecords}
 use Rattle.bundle_reader.specs.declared.Refusal.{Refusal}
-use Rattle.bundle.proofs.CheckLaws.{unrefused-go}
 use Rattle.bundle.specs.declared.EntryRecord.{EntryRecord}
 use Rattle.bundle_reader.proofs.StageLaws.{stops-first, none-left}
 use Rattle.bundle_reader.proofs.SlotLaws.{held}

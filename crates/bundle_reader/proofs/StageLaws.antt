@@ -10,20 +10,20 @@ use borrow.Author.Tests.{ltb-true, ltb-false}
 use borrow.Author.Count.{below-more, below-none}
 use Rattle.wire.specs.Bytes.{overwrite}
 use Rattle.wire.specs.First.{first}
-use Rattle.wire.specs.Stop.{Stop, go, stop, _⨾_, stopAt, earlier}
+use Rattle.wire.specs.Stop.{Stop, go, stop, _⨾_, stopAt, earlier, unrefused}
 use Rattle.wire.proofs.Bools.{byBool}
 use Rattle.wire.proofs.FirstLaws.{first-is, first-none, first-before, any-same}
-use Rattle.wire.proofs.StopLaws.{⨾-go, ⨾-stop, ⨾-first, ⨾-next, ⨾-left, ⨾-right, stopAt-same, stopAt-found, stopAt-clear}
+use Rattle.wire.proofs.StopLaws.{⨾-go, ⨾-stop, ⨾-first, ⨾-next, ⨾-left, ⨾-right, stopAt-same, stopAt-found, stopAt-clear, unrefused-go, unrefused-stop}
 use Rattle.entry_id.specs.IdRules.{IdRules, Lawful}
 use Rattle.bundle.specs.Table.{Row, count, rowStart, row, tableEnd}
-use Rattle.bundle.specs.Check.{badRow, badId, outside, overlapStop, meanSame, mix, unrefused, headStop, tableStop, rowsStop, bundleStop, check}
+use Rattle.bundle.specs.Check.{badRow, badId, outside, overlapStop, meanSame, mix, headStop, tableStop, rowsStop, bundleStop, check}
 use Rattle.bundle.specs.Accepted.{RowFits, Accepted}
 use Rattle.bundle.specs.Records.{rowOf}
 use Rattle.bundle.specs.declared.EntryRecord.{EntryRecord}
 use Rattle.bundle.specs.declared.Checked.{Checked}
 use Rattle.canonical_form.specs.Made.{formOf}
 use Rattle.canonical_form.specs.declared.Form.{Form}
-use Rattle.bundle.proofs.CheckLaws.{rowFits, inside, unrefused-go, unrefused-stop}
+use Rattle.bundle.proofs.CheckLaws.{rowFits, inside}
 use Rattle.bundle.proofs.AcceptLaws.{accepted, counted, sized}
 use Rattle.bundle_reader.specs.Examined.{filled, slots, text, form, formLength, made, rowsIn, examined, formsOf}
 use Rattle.bundle_reader.specs.Slots.{Rows, Passed, Tabled, Room, Formed, Staged, firstMore, Held, Texts, relation, Inner, Compared, Examination}

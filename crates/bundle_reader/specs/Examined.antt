@@ -8,11 +8,11 @@ use lib.Dec.{eqb, ltb}
 use lib.ListN.{length, getD, take, drop, set, replicate}
 use Rattle.wire.specs.Bytes.{overwrite}
 use Rattle.wire.specs.First.{first}
-use Rattle.wire.specs.Stop.{Stop, _⨾_, stopIf, stopAt}
+use Rattle.wire.specs.Stop.{Stop, _⨾_, stopIf, stopAt, unrefused}
 use Rattle.wire.specs.Word.{word}
 use Rattle.entry_id.specs.IdRules.{IdRules}
 use Rattle.bundle.specs.Table.{Row, count, rowStart, row}
-use Rattle.bundle.specs.Check.{badId, unrefused, headStop, tableStop, bundleStop, check}
+use Rattle.bundle.specs.Check.{badId, headStop, tableStop, bundleStop, check}
 use Rattle.bundle.specs.Pick.{pick}
 use Rattle.bundle.specs.Records.{noRecord, recordAt, rowsOf, badPart, recordsStop}
 use Rattle.bundle.specs.Theorems.{refusal}

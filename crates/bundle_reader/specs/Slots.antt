@@ -2,17 +2,17 @@
 use Prim.Native.Nat.{ℕ, zero, suc, _+_, _*_, _<_, _≤_}
 use mathlib.Core.Path.{_≡_}
 use mathlib.Core.Bool.{Bool, true, false, not, _&&_, _||_}
-use mathlib.Core.List.{List, [], _∷_}
+use mathlib.Core.List.{List, []}
 use lib.Dec.{eqb, ltb}
 use lib.ListN.{length, getD, replicate}
 use Rattle.wire.specs.Bytes.{empty}
 use Rattle.wire.specs.First.{first, anyBelow}
 use Rattle.wire.specs.Limit.{limit}
-use Rattle.wire.specs.Stop.{Stop, stop, _⨾_, stopIf, stopAt, earlier}
+use Rattle.wire.specs.Stop.{Stop, stop, _⨾_, stopIf, stopAt, earlier, unrefused}
 use Rattle.entry_id.specs.Canonical.{headKey}
 use Rattle.entry_id.specs.IdRules.{IdRules}
 use Rattle.bundle.specs.Table.{Row, count, rowStart, row}
-use Rattle.bundle.specs.Check.{badId, outside, overlapStop, unrefused, rowsStop, bundleStop}
+use Rattle.bundle.specs.Check.{badId, outside, overlapStop, rowsStop, bundleStop}
 use Rattle.bundle.specs.Accepted.{RowFits, Accepted}
 use Rattle.bundle.specs.Records.{rowsOf}
 use Rattle.bundle.specs.declared.Checked.{Checked}

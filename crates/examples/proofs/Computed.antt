@@ -6,19 +6,19 @@ use Rattle.wire.specs.Order.{insertBy, sortBy, risingBy}
 use Rattle.wire.specs.Bits.{bitsBelow, countBelow}
 use Rattle.wire.specs.Word.{bytesOf, wordOf, word}
 use Rattle.wire.specs.First.{first, anyBelow}
-use Rattle.wire.specs.Stop.{_⨾_, stopWhen, stopIf, stopAt, earlier}
+use Rattle.wire.specs.Stop.{_⨾_, stopWhen, stopIf, stopAt, earlier, unrefused, over, output}
 use Rattle.entry_id.specs.Text.{onFirst, splitOn, joinWith}
 use Rattle.entry_id.specs.Meaning.{fieldsOf, piecesOf, namesProcessor, fifthIsProcessor, feature, meaningOf, meaning, sign, piece, sixFields, canonicalOf}
 use Rattle.entry_id.specs.Meaning.{nameByte, fieldByte, processorByte, processorShaped, kinds, signed, named, shaped, proper, valid, canon}
 use Rattle.entry_id.specs.Compare.{comparedKind, comparedAs, sameTarget, sameFeature, compatible, sameNames, sameMeaning, mixed}
 use Rattle.entry_id.specs.Rules.{idRules}
 use Rattle.bundle.specs.Table.{magic, count, rowStart, rowAt, row, tableEnd}
-use Rattle.bundle.specs.Check.{badRow, outside, shareByte, sameSpan, overlaps, overlapStop, headStop, tableStop, unrefused, refusedOf, badId, meanSame, mix, rowsStop, bundleStop, check}
+use Rattle.bundle.specs.Check.{badRow, outside, shareByte, sameSpan, overlaps, overlapStop, headStop, tableStop, refusedOf, badId, meanSame, mix, rowsStop, bundleStop, check}
 use Rattle.bundle.specs.Pick.{compatibleAt, chosen, pickStop, pick, pickedImage}
 use Rattle.bundle.specs.Entry.{imageOf, entryOf, entriesOf}
 use Rattle.bundle.specs.Layout.{rowBytes, table, bundle, packedEnd, packedLength, images, packed, encode}
 use Rattle.bundle.specs.EntryAt.{entryStop, entryAt}
-use Rattle.bundle.specs.Normal.{roomStop, answer, over, output, normal, normalLength, normaliseStop, normalise}
+use Rattle.bundle.specs.Normal.{roomStop, answer, normal, normalLength, normaliseStop, normalise}
 use Rattle.bundle.specs.Each.{partOf, slotOf, took, pickAt, taken, eachStop, pickEach, slotsAfter}
 use Rattle.bundle.specs.Lookup.{has, lookupStop, bundleOf, answering, lookup, lookupImage}
 use Rattle.offload_binary.specs.Lists as lists

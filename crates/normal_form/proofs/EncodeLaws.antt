@@ -10,16 +10,15 @@ use borrow.Author.Tests.{lt-ltb, le-ltb}
 use Rattle.wire.specs.Limit.{limit}
 use Rattle.wire.specs.Bytes.{overwrite}
 use Rattle.wire.specs.Lists.{total, tab}
-use Rattle.wire.specs.Stop.{stop, _⨾_, stopIf, stopWhen}
+use Rattle.wire.specs.Stop.{stop, _⨾_, stopIf, stopWhen, unrefused, over, output}
 use Rattle.wire.specs.Word.{bytesOf}
 use Rattle.wire.proofs.OverwriteLaws.{overwrite-in, overwrite-then}
 use Rattle.wire.proofs.WordLaws.{length-bytesOf}
 use Rattle.bundle.specs.Table.{magic}
-use Rattle.bundle.specs.Check.{unrefused}
 use Rattle.bundle.specs.Entry.{Entry, noEntry}
 use Rattle.bundle.specs.Records.{recordAt, rowOf}
 use Rattle.bundle.specs.Layout.{rowSize, entrySize, table, bundle, packedEnd, packedLength, images, packed, encode, noRow}
-use Rattle.bundle.specs.Normal.{roomStop, answer, over, output}
+use Rattle.bundle.specs.Normal.{roomStop, answer}
 use Rattle.bundle.specs.declared.EntryRecord.{EntryRecord}
 use Rattle.bundle.specs.declared.Written.{Written}
 use Rattle.wire.proofs.TabLaws.{length-tab, getD-tab, take-tab}

@@ -6,15 +6,14 @@ use mathlib.Core.List.{List}
 use lib.Dec.{ltb}
 use lib.ListN.{length}
 use borrow.Author.Tests.{ltb-true, ltb-false}
-use Rattle.wire.specs.Stop.{go, stop, _⨾_, stopIf}
+use Rattle.wire.specs.Stop.{go, stop, _⨾_, stopIf, unrefused, output}
 use Rattle.wire.proofs.Bools.{byBool}
 use Rattle.wire.proofs.StopLaws.{⨾-stop, stopAt-same}
 use Rattle.entry_id.specs.IdRules.{IdRules}
-use Rattle.bundle.specs.Check.{unrefused}
 use Rattle.bundle.specs.Entry.{entryOf, entriesOf}
 use Rattle.bundle.specs.Records.{recordAt, rowOf, rowsOf, badPart, recordsStop}
 use Rattle.bundle.specs.Layout.{packedLength, encode}
-use Rattle.bundle.specs.Normal.{roomStop, answer, output}
+use Rattle.bundle.specs.Normal.{roomStop, answer}
 use Rattle.bundle.specs.declared.EntryRecord.{EntryRecord}
 use Rattle.wire.proofs.TabLaws.{tab-same}
 use Rattle.bundle.proofs.AcceptLaws.{rowsStop-same}

@@ -5,8 +5,8 @@ use mathlib.Core.Path.{_≡_, sym, ap, ap₂, _∙_}
 use mathlib.Core.List.{List}
 use lib.ListN.{length, take}
 use Rattle.wire.specs.Order.{sortBy}
-use Rattle.wire.specs.Stop.{Stop, _⨾_}
-use Rattle.wire.proofs.StopLaws.{⨾-go, ⨾-first}
+use Rattle.wire.specs.Stop.{Stop, _⨾_, output}
+use Rattle.wire.proofs.StopLaws.{⨾-go, ⨾-first, unrefused-go, unrefused-stop, output-stop}
 use Rattle.entry_id.specs.IdRules.{IdRules, Lawful}
 use Rattle.bundle.specs.Table.{count, row}
 use Rattle.bundle.specs.Check.{bundleStop}
@@ -14,13 +14,12 @@ use Rattle.bundle.specs.Entry.{Entry, entries, entriesOf}
 use Rattle.bundle_reader.specs.Examined.{text}
 use Rattle.bundle_reader.specs.Slots.{Examination}
 use Rattle.bundle.specs.Layout.{packedLength, encode}
-use Rattle.bundle.specs.Normal.{byId, roomStop, answer, output, normal, normalLength, normaliseStop, normalise, normalised}
+use Rattle.bundle.specs.Normal.{byId, roomStop, answer, normal, normalLength, normaliseStop, normalise, normalised}
 use Rattle.bundle.specs.Accepted.{Accepted}
 use Rattle.bundle.specs.declared.EntryRecord.{EntryRecord}
 use Rattle.bundle.specs.declared.Written.{Written}
-use Rattle.bundle.proofs.CheckLaws.{unrefused-go, unrefused-stop}
 use Rattle.bundle.proofs.AcceptLaws.{accepted, accepted-go}
-use Rattle.bundle.proofs.NormalLaws.{output-stop, sort-packedLength}
+use Rattle.bundle.proofs.NormalLaws.{sort-packedLength}
 use Rattle.normal_form.specs.Code.{given, inOrder, upTo, Filled, Placed}
 use Rattle.normal_form.proofs.GivenLaws.{filled, given-is, sorted-entries, sorted-placed}
 

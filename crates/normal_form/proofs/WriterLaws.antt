@@ -4,12 +4,13 @@ use mathlib.Core.Path.{_≡_, refl, sym, ap, ap₂, _∙_}
 use mathlib.Core.List.{List}
 use lib.ListN.{length, getD}
 use Rattle.wire.proofs.StopLaws.{⨾-next, ⨾-first}
+use Rattle.wire.specs.Stop.{output}
 use Rattle.entry_id.specs.IdRules.{IdRules, Lawful}
 use Rattle.bundle.specs.Entry.{Entry}
 use Rattle.bundle.specs.Records.{rowsOf, recordsStop}
 use Rattle.bundle_reader.specs.Slots.{Judged}
 use Rattle.bundle.specs.Layout.{packedLength, encode}
-use Rattle.bundle.specs.Normal.{roomStop, answer, output}
+use Rattle.bundle.specs.Normal.{roomStop, answer}
 use Rattle.bundle.specs.Writer.{entriesGiven, writeStop, write, writtenTo}
 use Rattle.bundle.specs.declared.EntryRecord.{EntryRecord}
 use Rattle.bundle.specs.declared.Written.{Written}

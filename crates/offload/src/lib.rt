@@ -1,5 +1,6 @@
 // The C calls. Each does the whole job and returns one number of the answer.
 mod amdgpu;
+mod binaries;
 
 ghost use mathlib.Core.Path.{_≡_};
 ghost use Rattle.entry_id.specs.Rules.{idRules};

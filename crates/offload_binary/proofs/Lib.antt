@@ -1,5 +1,7 @@
 pub mod ListLaws
+pub mod AllLaws
 pub mod BinaryLaws
+pub mod OwnLaws
 pub mod WrittenLaws
 pub mod ReadBack
 pub mod Theorems
@@ -12,3 +14,8 @@ pub mod WritableLaws
 pub mod WriterTheorems
 pub mod GatherLaws
 pub mod ExamplesProof
+pub mod RecoveryLaws
+pub mod TailLaws
+pub mod RecoverLaws
+pub mod RecoveryTheorems
+pub mod RecoveryExamples

@@ -113,7 +113,14 @@ pub from-more : (n from : ℕ) (b : List ℕ) → empty b ≡ false → binaries
 unfolding binariesFrom
 from-more n from b e = rw (e, binariesFrom)
 
-only-more : (n : ℕ) (b : List ℕ) → empty b ≡ false → binariesOnly (suc n) b ≡ true → (binaryStop b .number ≡ 0) × (binariesOnly n (drop (sizeOf b) b) ≡ true)
+pub from-few : (n from : ℕ) (b : List ℕ) → length (binariesFrom n from b) ≤ n
+from-few zero from b = omega (arith, ap length (from-none from b))
+from-few (suc n) from b =
+    byBool (empty b)
+    (λ t. omega (arith, ap length (from-empty n from b t)))
+    (λ f. omega (arith, ap length (from-more n from b f), from-few n (from + sizeOf b) (drop (sizeOf b) b)))
+
+pub only-more : (n : ℕ) (b : List ℕ) → empty b ≡ false → binariesOnly (suc n) b ≡ true → (binaryStop b .number ≡ 0) × (binariesOnly n (drop (sizeOf b) b) ≡ true)
 unfolding binariesOnly
 only-more n b f e = let p = and-both _ _ (rw (f, binariesOnly) at e) in (eqb-true _ _ (p .0), p .1)
 
@@ -129,7 +136,7 @@ more-only n b e r = rw (eq-eqb _ _ e, r, binariesOnly) (or-true (empty b))
 -- ---- call after call, on one sequence
 
 module _ (s : List ℕ) where
-  at-length : (k : ℕ) → k ≤ length s → empty (drop k s) ≡ true → k ≡ length s
+  pub at-length : (k : ℕ) → k ≤ length s → empty (drop k s) ≡ true → k ≡ length s
   at-length k h e = none (drop k s) (length-drop k s) e
     where
       none : (b : List ℕ) → length b ≡ length s - k → empty b ≡ true → k ≡ length s

@@ -2,7 +2,7 @@
 use Rattle.offload_binary.specs.SequenceTheorems.{Theorems}
 use Rattle.offload_binary.proofs.ReaderLaws.{accepted-at-end, one-after-another, reads-all, stays}
 use Rattle.offload_binary.proofs.WrittenLaws.{good}
-use Rattle.offload_binary.proofs.Sequences.{reads-back, lists-back}
+use Rattle.offload_binary.proofs.Sequences.{reads-back, lists-back, lays-out, whole}
 
 pub theorems : Theorems
 theorems = record {
@@ -10,6 +10,8 @@ theorems = record {
   one-after-another = one-after-another;
   reads-all = reads-all;
   stays = stays;
+  whole = whole;
+  lays-out = lays-out;
   reads-back = λ g front rest taken w few within. reads-back g front rest taken (good g w) few within;
   lists-back = lists-back;
 }

@@ -8,3 +8,6 @@ pub mod Writer
 pub mod Arrays
 pub mod WriterTheorems
 pub mod Examples
+pub mod Recovery
+pub mod RecoveryTheorems
+pub mod RecoveryExamples

@@ -7,7 +7,9 @@ use lib.Dec.{leb, ltb, eqb}
 use Rattle.wire.specs.Bytes.{empty}
 use Rattle.wire.specs.Stop.{Stop, _⨾_, stopIf}
 use Rattle.wire.specs.Limit.{limit}
-use Rattle.offload_binary.specs.Binary.{sizeOf, binaryStop, binary, handed, refused}
+use Rattle.wire.specs.Lists.{joined}
+use Rattle.offload_binary.specs.Binary.{bytesAt, sizeOf, binaryStop, binary, handed, refused}
+use Rattle.offload_binary.specs.declared.Part.{Part}
 use Rattle.offload_binary.specs.declared.Binary.{Binary}
 use Rattle.offload_binary.specs.declared.Cursor.{Cursor}
 use Rattle.offload_binary.specs.declared.Answer.{Answer}
@@ -62,3 +64,13 @@ binariesFrom (suc n) from b = cond (empty b) [] (binary from b ∷ binariesFrom 
 
 unfoldable pub binaries : List ℕ → List Binary
 binaries s = binariesFrom 64 0 s
+
+-- ---- the bytes of binaries
+
+-- a binary that was handed back, as a part of the bytes that it was read from
+abbrev pub partOf : Binary → Part
+partOf b = record { start = b .start; len = b .size }
+
+-- the bytes of parts, one directly after another
+unfoldable pub endToEnd : List ℕ → List Part → List ℕ
+endToEnd s parts = joined (bytesAt s) parts

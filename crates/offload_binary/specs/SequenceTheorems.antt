@@ -6,11 +6,13 @@ use mathlib.Core.Bool.{true}
 use mathlib.Core.List.{List, [], _∷_, _++_, map}
 use lib.ListN.{length, getD, drop}
 use Rattle.wire.specs.Limit.{limit}
-use Rattle.offload_binary.specs.Binary.{noBinary, binaryStop, binary, handed, refused}
-use Rattle.offload_binary.specs.Reader.{next, cursorAfter, answer, accepted, binaries}
+use Rattle.wire.specs.Lists.{joined}
+use Rattle.offload_binary.specs.Binary.{noBinary, bytesAt, sizeOf, binaryStop, binary, handed, refused}
+use Rattle.offload_binary.specs.Reader.{next, cursorAfter, answer, accepted, binaries, partOf, endToEnd}
 use Rattle.offload_binary.specs.Contents.{Contents, contents, written}
 use Rattle.offload_binary.specs.Theorems.{Writable}
 use Rattle.offload_binary.specs.declared.Cursor.{Cursor}
+use Rattle.offload_binary.specs.declared.Part.{Part}
 
 -- "A strip is accepted exactly when its reader reaches END."
 abbrev pub AcceptedAtEnd : List ℕ → Type 0
@@ -52,14 +54,23 @@ module _ (g : Contents) (front rest : List ℕ) (taken : ℕ) where
     pub moved : next around there .cursor ≡ record { position = length front + length (written g); taken = taken + 1 }
     pub holds : contents around (next around there .answer .binary) ≡ g
 
--- written binaries laid end to end
-unfoldable pub laid : List Contents → List ℕ
-laid [] = []
-laid (g ∷ gs) = written g ++ laid gs
-
 abbrev pub All : {A : Type 0} → (A → Type 0) → List A → Type 0
 All P [] = Unit {0}
 All P (x ∷ xs) = P x × All P xs
+
+-- a part of s is a binary: none of 13 to 17 refuses it, and it is as long as its size says
+pub record IsBinary (s : List ℕ) (p : Part) : Type 0 where
+  pub sound : binaryStop (drop (p .start) s) .number ≡ 0
+  pub size : p .len ≡ sizeOf (drop (p .start) s)
+
+-- such parts laid end to end are accepted, and what is read from them are their bytes, in order
+pub record LaysOut (s : List ℕ) (parts : List Part) : Type 0 where
+  pub is-accepted : accepted (endToEnd s parts) ≡ true
+  pub bytes : map (λ b. bytesAt (endToEnd s parts) (partOf b)) (binaries (endToEnd s parts)) ≡ map (bytesAt s) parts
+
+-- written binaries laid end to end
+unfoldable pub laid : List Contents → List ℕ
+laid gs = joined written gs
 
 -- they are accepted, and read back as the list
 pub record ListsBack (gs : List Contents) : Type 0 where
@@ -71,5 +82,8 @@ pub record Theorems : Type 0 where
   pub one-after-another : (s : List ℕ) → OneAfterAnother s
   pub reads-all : (s : List ℕ) → accepted s ≡ true → ReadsAll s
   pub stays : (s : List ℕ) → Stays s
+  -- an accepted sequence is its binaries, one directly after another
+  pub whole : (s : List ℕ) → accepted s ≡ true → endToEnd s (map partOf (binaries s)) ≡ s
+  pub lays-out : (s : List ℕ) (parts : List Part) → All (IsBinary s) parts → length parts ≤ 64 → length (endToEnd s parts) ≤ limit → LaysOut s parts
   pub reads-back : (g : Contents) (front rest : List ℕ) (taken : ℕ) → Writable g → taken < 64 → length (front ++ (written g ++ rest)) ≤ limit → ReadsBack g front rest taken
   pub lists-back : (gs : List Contents) → All Writable gs → length gs ≤ 64 → length (laid gs) ≤ limit → ListsBack gs

@@ -69,3 +69,11 @@ pub struct Written {
     pub place: usize,
     pub len: usize,
 }
+
+// OK, the bytes copied and the spans reported; or a refusal and its place, and nothing written.
+pub struct Recovered {
+    pub number: usize,
+    pub place: usize,
+    pub length: usize,
+    pub spans: usize,
+}

@@ -126,6 +126,33 @@ pub(crate) fn sixty_four() {
     print_check(&bundle);
 }
 
+// 65 binaries of 72 bytes, each behind a byte that is none.
+fn put_binaries(out: &mut [u8]) {
+    let mut i = 0;
+    while i < 65 {
+        wire_copy::copy_at(
+            out,
+            73 * i + 1,
+            b"\x10\xff\x10\xad\x01\0\0\0\x48\0\0\0\0\0\0\0\x20\0\0\0\0\0\0\0\x28\0\0\0\0\0\0\0\
+            \0\0\0\0\0\0\0\0\x48\0\0\0\0\0\0\0\0\0\0\0\0\0\0\0\x48\0\0\0\0\0\0\0\0\0\0\0\0\0\0\0",
+        );
+        i += 1;
+    }
+}
+
+// "A 65th found binary gives 18 with its first byte as place"
+pub(crate) fn sixty_five() {
+    let mut binaries = [b'.'; 4745];
+    put_binaries(&mut binaries);
+    let r = offload_binary_recovery::recover(&binaries, &mut [b'.'; 1], &mut [[1, 2]; 1]);
+    io::write_all(1, b"recover");
+    print(r.number as u64);
+    print(r.place as u64);
+    print(r.length as u64);
+    print(r.spans as u64);
+    io::write_all(1, b"\n");
+}
+
 // A real bundle by LLVM, on standard input: samples/bundles/five-fields.bundle.
 pub(crate) fn real_bundle() {
     let mut buffer = [0u8; 8192];

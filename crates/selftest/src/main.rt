@@ -8,5 +8,6 @@ fn main() {
     selftest_binaries::run();
     large::long_copy();
     large::sixty_four();
+    large::sixty_five();
     large::real_bundle();
 }

@@ -19,7 +19,7 @@ const SMALL: [u8; 288] =
     \0arch\0triple\0nvptx64-nvidia-cuda\0sm_70\0\0";
 
 // "Binary with no strings and no image: 72 bytes."
-const BARE: [u8; 72] =
+pub(crate) const BARE: [u8; 72] =
     *b"\x10\xff\x10\xad\x01\0\0\0\x48\0\0\0\0\0\0\0\x20\0\0\0\0\0\0\0\x28\0\0\0\0\0\0\0\
     \0\0\0\0\0\0\0\0\x48\0\0\0\0\0\0\0\0\0\0\0\0\0\0\0\x48\0\0\0\0\0\0\0\0\0\0\0\0\0\0\0";
 

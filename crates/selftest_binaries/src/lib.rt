@@ -2,6 +2,7 @@
 // What a case expects is a theorem: `expect_..` asks that the definitions give it, and holds what runs to it.
 mod binaries;
 mod binary_writer;
+mod recovery;
 
 // Every case.
 pub fn run() {
@@ -19,4 +20,8 @@ pub fn run() {
     binary_writer::bare();
     binary_writer::with_arch();
     binary_writer::too_many();
+    recovery::damaged();
+    recovery::sound();
+    recovery::nothing();
+    recovery::no_room();
 }

@@ -3,16 +3,16 @@
 use Rattle.wire.specs.Lists.{total, tab}
 use Rattle.wire.specs.Bits.{bitsBelow, countBelow}
 use Rattle.wire.specs.First.{first, anyBelow}
-use Rattle.wire.specs.Stop.{_⨾_, stopWhen, stopIf, stopAt, earlier}
+use Rattle.wire.specs.Stop.{_⨾_, stopWhen, stopIf, stopAt, earlier, unrefused, over, output}
 use Rattle.bundle.specs.Table.{magic, count, rowStart, rowAt, row, tableEnd}
-use Rattle.bundle.specs.Check.{badRow, outside, shareByte, sameSpan, overlaps, overlapStop, headStop, tableStop, unrefused, refusedOf, badId, meanSame, mix, rowsStop, bundleStop, check}
+use Rattle.bundle.specs.Check.{badRow, outside, shareByte, sameSpan, overlaps, overlapStop, headStop, tableStop, refusedOf, badId, meanSame, mix, rowsStop, bundleStop, check}
 use Rattle.bundle.specs.Pick.{compatibleAt, chosen, pickStop, pick, pickedImage}
 use Rattle.bundle.specs.Each.{partOf, slotOf, pickAt, eachStop, slotsAfter}
 use Rattle.bundle.specs.Lookup.{numbersOf, has, lookupStop, bundleOf, answering, lookup, lookupImage}
 use Rattle.bundle.specs.EntryAt.{entryStop, entryAt}
 use Rattle.bundle.specs.Entry.{imageOf, entryOf, entriesOf}
 use Rattle.bundle.specs.Layout.{rowBytes, table, bundle, packedEnd, packedLength, images, packed, encode}
-use Rattle.bundle.specs.Normal.{roomStop, answer, over, output, normal, normalLength, normaliseStop, normalise, normalised}
+use Rattle.bundle.specs.Normal.{roomStop, answer, normal, normalLength, normaliseStop, normalise, normalised}
 use Rattle.bundle.specs.Records.{recordAt, rowOf, rowsOf, badPart, recordsStop}
 use Rattle.bundle.specs.Writer.{writeStop, write, writtenTo}
 use Rattle.selftest_ids.proofs.Computing.{ids}

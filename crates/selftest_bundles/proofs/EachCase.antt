@@ -9,11 +9,10 @@ use lib.ListN.{length, getD}
 use Rattle.wire.specs.Bits.{bitsBelow, countBelow}
 use Rattle.wire.specs.First.{anyBelow, first}
 use Rattle.wire.specs.Lists.{any, tab}
-use Rattle.wire.specs.Stop.{Stop}
+use Rattle.wire.specs.Stop.{Stop, unrefused}
 use Rattle.wire.proofs.BitLaws.{bits-same, count-same}
 use Rattle.wire.proofs.FirstLaws.{any-suc}
 use Rattle.entry_id.specs.Rules.{idRules}
-use Rattle.bundle.specs.Check.{unrefused}
 use Rattle.bundle.specs.Each.{slotOf, took, pickAt, taken, eachStop, pickEach}
 use Rattle.bundle.specs.declared.PickedEach.{PickedEach}
 

@@ -1,17 +1,20 @@
 -- Facts on tests: a Bool as an equation, and as the type T b. Assumes nothing.
-use Prim.Native.Nat.{ℕ}
+use Prim.Native.Nat.{ℕ, _<_, _≤_}
 use mathlib.Core.Path.{_≡_, refl, sym, subst, _∙_}
 use mathlib.Core.Logic.{_⊎_, inl, inr}
 use mathlib.Core.Bool.{Bool, true, false, not, _&&_, _||_, cond}
 use native.Mathlib.Omega.{arith}
-use borrow.Author.Tests.{eq-eqb, ne-eqb, eqb-true, eqb-false}
-use lib.Dec.{T, eqb}
+use borrow.Author.Tests.{eq-eqb, ne-eqb, eqb-true, eqb-false, ltb-true, ltb-false}
+use lib.Dec.{T, eqb, ltb}
 
 -- ---- a split, and a contradiction
 
 pub byBool : {C : Type 0} (b : Bool) → (b ≡ true → C) → (b ≡ false → C) → C
 byBool true t f = t refl
 byBool false t f = f refl
+
+pub byLt : {C : Type 0} (a b : ℕ) → (a < b → C) → (b ≤ a → C) → C
+byLt a b l g = byBool (ltb a b) (λ t. l (ltb-true a b t)) (λ f. g (ltb-false a b f))
 
 pub cases : (b : Bool) → (b ≡ true) ⊎ (b ≡ false)
 cases true = inl refl

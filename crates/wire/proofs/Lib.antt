@@ -9,3 +9,4 @@ pub mod FirstLaws
 pub mod StopLaws
 pub mod BitLaws
 pub mod Theorems
+pub mod RowLaws

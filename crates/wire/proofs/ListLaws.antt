@@ -1,12 +1,12 @@
--- Laws of sums over lists, and of members by index. Assumes nothing.
+-- Laws of sums over lists, of bytes joined, and of members by index. Assumes nothing.
 use Prim.Native.Nat.{ℕ, zero, suc, _+_, _*_, _<_, _≤_, zero-le}
 use native.Mathlib.Omega.{arith}
 use native.Mathlib.Nat.{suc-mul}
-use mathlib.Core.Path.{_≡_, refl}
+use mathlib.Core.Path.{_≡_, refl, sym, ap, _∙_}
 use mathlib.Core.Logic.{inl, inr}
-use mathlib.Core.List.{List, [], _∷_, _++_, List·Memᴰ, List·Memᴰ·head, List·Memᴰ·tail, List·Memᴰ·not-nil, List·Memᴰ·cases-cons}
-use lib.ListN.{length, getD}
-use Rattle.wire.specs.Lists.{total}
+use mathlib.Core.List.{List, [], _∷_, _++_, append-assoc, List·Memᴰ, List·Memᴰ·head, List·Memᴰ·tail, List·Memᴰ·not-nil, List·Memᴰ·cases-cons}
+use lib.ListN.{length, getD, length-append}
+use Rattle.wire.specs.Lists.{total, joined}
 
 pub total-append : {A : Type 0} (f : A → ℕ) (a b : List A) → total f (a ++ b) ≡ total f a + total f b
 unfolding total
@@ -28,6 +28,20 @@ pub total-most : {A : Type 0} (v : A → ℕ) (d : A) (m : ℕ) (l : List A) →
 unfolding total
 total-most v d m [] h = zero-le
 total-most v d m (x ∷ l) h = omega (arith, suc-mul (length l) m, h zero (omega arith), total-most v d m l (λ i b. h (suc i) (omega arith)))
+
+-- ---- bytes joined
+
+pub joined-append : {A : Type 0} (f : A → List ℕ) (a b : List A) → joined f (a ++ b) ≡ joined f a ++ joined f b
+unfolding joined
+joined-append f [] b = refl
+joined-append f (x ∷ a) b = ap (f x ++_) (joined-append f a b) ∙ sym (append-assoc (f x) (joined f a) (joined f b))
+
+pub length-joined : {A : Type 0} (f : A → List ℕ) (l : List A) → length (joined f l) ≡ total (λ x. length (f x)) l
+unfolding joined total
+length-joined f [] = refl
+length-joined f (x ∷ l) = omega (arith, length-append (f x) (joined f l), length-joined f l)
+
+-- ---- members
 
 -- the index of a member
 pub member-at : {A : Type 0} (l : List A) (d x : A) → List·Memᴰ x l → (i : ℕ) × (i < length l) × (x ≡ getD l i d)

@@ -3,11 +3,15 @@ use Prim.Native.Nat.{ℕ, zero, suc, _<_, _≤_}
 use native.Mathlib.Omega.{arith}
 use mathlib.Core.Path.{_≡_, refl, sym, ap, _∙_}
 use mathlib.Core.Bool.{Bool, true, false}
+use mathlib.Core.List.{List, _++_}
+use lib.ListN.{length, drop, length-append, length-drop}
 use borrow.Author.Tests.{lt-ltb, le-ltb}
 use Rattle.wire.specs.First.{first, anyBelow}
-use Rattle.wire.specs.Stop.{Stop, go, stop, _⨾_, stopWhen, stopIf, stopAt, earlier}
+use Rattle.wire.specs.Lists.{tab}
+use Rattle.wire.specs.Stop.{Stop, go, stop, _⨾_, stopWhen, stopIf, stopAt, earlier, unrefused, over, output}
 use Rattle.wire.proofs.Bools.{byBool}
 use Rattle.wire.proofs.FirstLaws.{first-same, any-same, any-none, none-any, any-some}
+use Rattle.wire.proofs.TabLaws.{length-tab}
 
 pub ⨾-go : (b : Stop) → go ⨾ b ≡ b
 unfolding _⨾_
@@ -113,3 +117,30 @@ none-earlier related f i e j h = none-any i (λ k. related (f k) (f i)) e j h
 pub earlier-some : {A : Type 0} (related : A → A → Bool) (f : ℕ → A) (i j : ℕ) → j < i → related (f j) (f i) ≡ true → earlier related f i ≡ true
 unfolding earlier
 earlier-some related f i j h e = any-some i (λ k. related (f k) (f i)) j h e
+
+-- ---- what a refused call returns and leaves
+
+pub unrefused-go : (t : Stop) (v : ℕ) → t .number ≡ 0 → unrefused t v ≡ v
+unfolding unrefused
+unrefused-go t v e = rw (e, unrefused)
+
+pub unrefused-stop : (t : Stop) (v k : ℕ) → t .number ≡ suc k → unrefused t v ≡ 0
+unfolding unrefused
+unrefused-stop t v k e = rw (e, unrefused)
+
+module _ {A : Type 0} where
+  pub output-go : (t : Stop) (items out : List A) → t .number ≡ 0 → output t items out ≡ over items out
+  unfolding output
+  output-go t items out e = rw (e, output)
+
+  pub output-stop : (t : Stop) (items out : List A) (k : ℕ) → t .number ≡ suc k → output t items out ≡ out
+  unfolding output
+  output-stop t items out k e = rw (e, output)
+
+  pub over-tab : (n : ℕ) (f : ℕ → A) (out : List A) → over (tab n f) out ≡ tab n f ++ drop n out
+  unfolding over
+  over-tab n f out = ap (λ k. tab n f ++ drop k out) (length-tab n f)
+
+  pub length-over : (items out : List A) → length items ≤ length out → length (over items out) ≡ length out
+  unfolding over
+  length-over items out h = rw (length-append items (drop (length items) out), length-drop (length items) out) (omega arith)

@@ -7,3 +7,4 @@ pub mod Stop
 pub mod Theorems
 pub mod Limit
 pub mod Bits
+pub mod Rows

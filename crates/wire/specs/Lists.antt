@@ -1,7 +1,7 @@
--- Tests on lists, sums over them, and lists without repeats. Definitions only.
+-- Tests on lists, sums over them, their bytes joined, and lists without repeats. Definitions only.
 use Prim.Native.Nat.{ℕ, _+_, zero, suc}
 use mathlib.Core.Bool.{Bool, true, false, _&&_, _||_, cond}
-use mathlib.Core.List.{List, [], _∷_}
+use mathlib.Core.List.{List, [], _∷_, _++_}
 use lib.Dec.{eqb}
 
 -- every element passes the test
@@ -25,6 +25,11 @@ agree t (x ∷ a) (y ∷ b) = t x y && agree t a b
 unfoldable pub total : {A : Type 0} → (A → ℕ) → List A → ℕ
 total f [] = 0
 total f (x ∷ l) = f x + total f l
+
+-- the bytes of each element, one after another
+unfoldable pub joined : {A : Type 0} → (A → List ℕ) → List A → List ℕ
+joined f [] = []
+joined f (x ∷ l) = f x ++ joined f l
 
 -- f 0, .., f (n - 1)
 unfoldable pub tab {ℓ} : {A : Type ℓ} → ℕ → (ℕ → A) → List A

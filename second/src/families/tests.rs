@@ -4,6 +4,7 @@ mod each;
 mod lookup;
 mod processors;
 mod profile;
+mod recover;
 
 use super::*;
 use crate::calls::{BundleCalls, MODEL, MODEL_BINARY_READER, MODEL_BINARY_WRITER, MODEL_BUNDLE_WRITER, MODEL_PROFILE};

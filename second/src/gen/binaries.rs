@@ -74,7 +74,31 @@ impl BinaryDraft {
         }
     }
 
-    fn length(&self) -> u64 {
+    /// A binary that is accepted, with any number of pairs.
+    pub fn some(random: &mut Random) -> BinaryDraft {
+        let pairs = some_pair_count(random);
+        BinaryDraft::good(random, pairs)
+    }
+
+    /// The same with these bytes as its image, behind all others.
+    pub fn around(random: &mut Random, image: &[u8]) -> BinaryDraft {
+        let mut binary = BinaryDraft::some(random);
+        binary.image_offset = binary.append(image);
+        binary.image_size = image.len() as u64;
+        binary
+    }
+
+    /// A binary of 72 bytes.
+    pub fn smallest(random: &mut Random) -> BinaryDraft {
+        let mut binary = BinaryDraft::good(random, 0);
+        binary.bytes = vec![0; 72];
+        (binary.entry_at, binary.entry_offset) = (32, 32);
+        (binary.pairs_at, binary.table) = (72, 72);
+        (binary.image_offset, binary.image_size) = (random.between(32, 72) as u64, 0);
+        binary
+    }
+
+    pub fn length(&self) -> u64 {
         self.bytes.len() as u64
     }
 
@@ -214,12 +238,17 @@ impl Draft {
     }
 }
 
-pub fn some_draft(random: &mut Random) -> Draft {
-    let count = match random.below(20) {
+/// How many binaries: mostly few.
+pub(super) fn some_count(random: &mut Random) -> usize {
+    match random.below(20) {
         0 => 0,
         1..=17 => random.between(1, 4),
         _ => random.between(5, 12),
-    };
+    }
+}
+
+pub fn some_draft(random: &mut Random) -> Draft {
+    let count = some_count(random);
     Draft::good(random, count)
 }
 
@@ -248,6 +277,13 @@ pub fn shake(case: &mut Case, random: &mut Random) {
             _ => bytes.insert(at, random.byte()),
         }
     }
+}
+
+/// Lines of the reader that end with this number, but for large ones.
+pub fn aims_at(number: u64) -> Vec<BinaryAim> {
+    let mut aims = aims();
+    aims.retain(|aim| aim.number == number && !aim.large);
+    aims
 }
 
 type BinaryAim = Aim<Draft>;
@@ -338,7 +374,10 @@ fn span_aims() -> Vec<BinaryAim> {
             draft.tail = BinaryDraft::good(random, 0).bytes();
             draft.tail.truncate(32);
         }),
-        read(END, "smallest binary", smallest),
+        read(END, "smallest binary", |draft, random| {
+            let binary = BinaryDraft::smallest(random);
+            draft.replace_some(random, binary);
+        }),
         last(SPAN, "size of 71", |binary, _| binary.size = Some(71)),
         last(SPAN, "size under 72", |binary, random| binary.size = Some(random.below(72) as u64)),
         last(SPAN, "size 1 above what is left", |binary, _| binary.size = Some(binary.length() + 1)),
@@ -370,15 +409,6 @@ fn span_aims() -> Vec<BinaryAim> {
             binary.entry_offset ^= 1 << random.between(32, 63)
         }),
     ]
-}
-
-fn smallest(draft: &mut Draft, random: &mut Random) {
-    let mut binary = BinaryDraft::good(random, 0);
-    binary.bytes = vec![0; 72];
-    (binary.entry_at, binary.entry_offset) = (32, 32);
-    (binary.pairs_at, binary.table) = (72, 72);
-    (binary.image_offset, binary.image_size) = (random.between(32, 72) as u64, 0);
-    draft.replace_some(random, binary);
 }
 
 /// The entry stands at the end of the binary.

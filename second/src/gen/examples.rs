@@ -1,5 +1,5 @@
-//! The examples of RULES B, B.1 to B.13, B.16 and B.17, processors with hyphens, our own cards, several device names, and two bundles, as
-//! cases. `model/examples.rs` says what comes of them.
+//! The examples of RULES B, B.1 to B.13, B.16 and B.17, processors with hyphens, our own cards, several device names, two bundles, and
+//! damaged sequences, as cases. `model/examples.rs` says what comes of them.
 
 use super::{binaries, bundles, each, lookup, Room};
 use crate::model::binary_writer::{write_binary, Content, PairParts};
@@ -308,15 +308,59 @@ pub fn sm_70() -> Content {
 pub const SM_70_STRINGS: &[u8] = b"archsm_70";
 pub const SM_70_IMAGE: &[u8] = b"img";
 
+fn written(content: &Content, strings: &[u8], image: &[u8]) -> Vec<u8> {
+    let mut out = vec![0; 200 + image.len()];
+    let length = write_binary(content, strings, image, &mut out).length;
+    out.truncate(length as usize);
+    out
+}
+
+/// The binary of 72 bytes, without strings and image.
+pub fn binary_of_72() -> Vec<u8> {
+    written(&Content::default(), b"", b"")
+}
+
+/// The binary of 112 bytes, with `arch`/`sm_70`: its image of 3 bytes is at 104.
+pub fn binary_of_112() -> Vec<u8> {
+    written(&sm_70(), SM_70_STRINGS, SM_70_IMAGE)
+}
+
+/// A binary without strings: its image is at 72.
+pub fn binary_around(image: &[u8]) -> Vec<u8> {
+    written(&Content::default(), b"", image)
+}
+
 pub fn binaries_cases() -> Vec<binaries::Case> {
-    let written = |content: &Content, strings: &[u8], image: &[u8]| {
-        let mut out = vec![0; 200];
-        let length = write_binary(content, strings, image, &mut out).length;
-        out.truncate(length as usize);
-        out
-    };
-    let empty = written(&Content::default(), b"", b"");
-    let whole = written(&sm_70(), SM_70_STRINGS, SM_70_IMAGE);
+    let (empty, whole) = (binary_of_72(), binary_of_112());
     let containers = [Vec::new(), empty.clone(), whole.clone(), [whole, empty].concat()];
     containers.into_iter().map(|binaries| binaries::Case { binaries, zeros: 0 }).collect()
+}
+
+/// The binary with its first byte changed.
+pub fn broken(mut binary: Vec<u8>) -> Vec<u8> {
+    binary[0] ^= 1;
+    binary
+}
+
+/// Sequences of which some binaries are found.
+pub fn recover_cases() -> Vec<Vec<u8>> {
+    let (small, whole) = (binary_of_72(), binary_of_112());
+    let (outer, rubbish) = (binary_around(&whole), b"rubbish".to_vec());
+    let mut sequences: Vec<Vec<u8>> = binaries_cases().into_iter().map(|case| case.binaries).collect();
+    sequences.extend([
+        rubbish.clone(),
+        vec![0; 1 << 20],
+        [&rubbish[..], &whole].concat(),
+        [&whole[..], &rubbish].concat(),
+        [&small[..], &rubbish, &whole].concat(),
+        [&rubbish[..], &small, &rubbish, &whole, &rubbish].concat(),
+        [&broken(whole.clone())[..], &small].concat(),
+        [&outer[..], &small].concat(),
+        [&broken(outer)[..], &small].concat(),
+        whole[..111].to_vec(),
+        small.repeat(64),
+        [&small.repeat(64)[..], &rubbish].concat(),
+        small.repeat(65),
+    ]);
+    sequences
 }

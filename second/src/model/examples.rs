@@ -1,8 +1,9 @@
 //! The examples of RULES B, the mistakes of RULES C, `hip` beside `hipv4`, entries by index, images that overlap, processors with hyphens,
-//! our own cards, several device names, and two bundles.
+//! our own cards, several device names, two bundles, and damaged sequences.
 
 mod each;
 mod lookup;
+mod recover;
 
 use super::binaries::{read_all, Binary, Pair};
 use super::binary_writer::{write_binary, Content};
@@ -729,9 +730,7 @@ fn bundle_writer_compares_and_keeps_kinds() {
 
 /// A container of so many binaries of 72 bytes.
 fn repeated(count: usize) -> Vec<u8> {
-    let mut out = [0; 72];
-    write_binary(&Content::default(), b"", b"", &mut out);
-    out.repeat(count)
+    binary_of_72().repeat(count)
 }
 
 #[test]

@@ -1,21 +1,22 @@
-//! What RULES 8.3, 10.6, 10.7 and 16 say of the rules as a whole, tried on generated cases by either reading; what the profile leaves as it
+//! What RULES 8.3, 10.6, 10.7, 16 and 20 say of the rules as a whole, tried on generated cases by either reading; what the profile leaves as it
 //! is; and which IDs there are, tried on all short ones.
 
-use super::binaries::read_all;
+use super::binaries::{next, read_all, Cursor};
 use super::binary_writer::{write_binary, PairParts};
 use super::bundle::{check_of, entries, entry_at_of, normalise_of, pick_of, Checked, Entries, Entry, Located, Picked};
 use super::bundle_writer::write_bundle;
-use super::each::{pick_each, Slot};
+use super::each::{pick_each, Part, Slot};
 use super::id::{
     begins_a_processor, canonical, compatible, meaning, meaning_by, mixed, own_processor, same_meaning, Meaning,
     Reading,
 };
 use super::lookup::{lookup as lookup_in, LookedUp, MAIN, NEITHER, PATCH};
 use super::processors::known;
+use super::recover::{copied, end, found, recover as recover_from, skipped, Recovered};
 use super::*;
 use crate::gen::bundles::{some_count, Draft, Offset, Row};
 use crate::gen::random::Random;
-use crate::gen::{binary_contents, each, ids, lookup, records};
+use crate::gen::{binaries, binary_contents, each, ids, lookup, records, recover, Aim};
 use std::collections::{BTreeMap, BTreeSet};
 
 const CASES: u64 = 3000;
@@ -297,6 +298,90 @@ fn what_follows_the_tables_changes_no_lookup() {
         draft.patch.body = random.bytes(draft.patch.body.len());
         draft.main.body = random.bytes(draft.main.body.len());
         assert_eq!(answer(&draft), found);
+    });
+}
+
+/// A sequence that is damaged at some of the lines, or anywhere.
+fn some_sequence(random: &mut Random, aims: &[Aim<recover::Draft>]) -> Vec<u8> {
+    let mut draft = recover::some_draft(random);
+    (random.choose(aims).make)(&mut draft, random);
+    let mut sequence = binaries::Case { zeros: 0, ..draft.case().sequence };
+    if random.one_in(2) {
+        recover::shake(&mut sequence, random);
+    }
+    sequence.binaries
+}
+
+/// Lines of recovering, but for large ones.
+fn recover_aims() -> Vec<Aim<recover::Draft>> {
+    let mut aims = recover::aims();
+    aims.retain(|aim| !aim.large);
+    aims
+}
+
+/// What is recovered, with room enough.
+fn recovered(sequence: &[u8]) -> (Recovered, Vec<u8>, Vec<Part>) {
+    let (mut out, mut spans) = (vec![0; sequence.len()], vec![Part::default(); 65]);
+    let recovered = recover_from(sequence, &mut out, &mut spans);
+    out.truncate(recovered.length as usize);
+    spans.truncate(recovered.spans as usize);
+    (recovered, out, spans)
+}
+
+#[test]
+fn each_binary_that_is_found_is_the_first_that_is_whole() {
+    let aims = recover_aims();
+    each_case(|random| {
+        let sequence = some_sequence(random, &aims);
+        let found = found(&sequence).unwrap();
+        let is_whole = |at: u64| next(&sequence, Cursor { at: at as usize, taken: 0 }).0.number == OK;
+        assert!(found.iter().all(|binary| is_whole(binary.start)));
+        assert!(skipped(sequence.len() as u64, &found).iter().all(|span| !(span.start..end(*span)).any(is_whole)));
+    });
+}
+
+#[test]
+fn each_byte_is_copied_or_skipped_once_in_its_order() {
+    let aims = recover_aims();
+    each_case(|random| {
+        let sequence = some_sequence(random, &aims);
+        let (answer, copies, spans) = recovered(&sequence);
+        assert_eq!((answer.number, answer.place), (OK, 0));
+        let skips = |at: &usize| spans.iter().any(|span| (span.start..end(*span)).contains(&(*at as u64)));
+        let kept: Vec<u8> = (0..sequence.len()).filter(|at| !skips(at)).map(|at| sequence[at]).collect();
+        assert_eq!(copies, kept);
+        assert_eq!(copies.len() as u64 + copied(&spans), sequence.len() as u64);
+        assert!(spans.windows(2).all(|two| end(two[0]) < two[1].start));
+    });
+}
+
+#[test]
+fn what_is_recovered_is_accepted_and_recovered_again() {
+    let aims = recover_aims();
+    each_case(|random| {
+        let sequence = some_sequence(random, &aims);
+        let (answer, copies, _) = recovered(&sequence);
+        let mut answers = read_all(&copies);
+        assert_eq!(answers.pop().map(|last| last.number), Some(END));
+        let sizes: Vec<u64> = answers.iter().map(|binary| binary.size).collect();
+        assert_eq!(sizes, found(&sequence).unwrap().iter().map(|binary| binary.length).collect::<Vec<_>>());
+        assert_eq!(recovered(&copies), (Recovered { spans: 0, ..answer }, copies.clone(), Vec::new()));
+    });
+}
+
+#[test]
+fn an_accepted_tail_comes_out_unless_a_binary_of_the_front_reaches_into_it() {
+    let aims = recover_aims();
+    each_case(|random| {
+        let (front, tail) = (some_sequence(random, &aims), binaries::some_draft(random).case().binaries);
+        let sequence = [&front[..], &tail].concat();
+        let first = front.len() as u64;
+        let reaches = |binary: &Part| binary.start < first && end(*binary) > first;
+        if !found(&sequence).unwrap().iter().any(reaches) {
+            let (_, copies, spans) = recovered(&sequence);
+            assert!(copies.ends_with(&recovered(&tail).1) && copies.ends_with(&tail));
+            assert!(spans.iter().all(|span| end(*span) <= first));
+        }
     });
 }
 

@@ -3,7 +3,7 @@ use native.Mathlib.Omega.{arith}
 use Prim.Native.Nat.{ℕ}
 use mathlib.Core.Path.{refl, sym, ap, _∙_}
 use Rattle.wire.specs.Stop.{stop}
-use Rattle.bundle.proofs.CheckLaws.{unrefused-go}
+use Rattle.wire.proofs.StopLaws.{unrefused-go}
 use Rattle.bundle_reader.proofs.StageLaws.{none-left}
 use Rattle.bundle_reader.proofs.checked.Statement.{statement}
 use Rattle.bundle_reader.proofs.checked.Tie as tie

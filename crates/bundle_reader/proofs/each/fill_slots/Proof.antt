@@ -5,8 +5,8 @@ use lib.ListN.{length}
 use borrow.Author.Needs.{needs}
 use Rattle.wire.specs.Bits.{bitsBelow}
 use Rattle.wire.specs.Lists.{tab}
+use Rattle.wire.specs.Stop.{over}
 use Rattle.entry_id.specs.Rules.{idRules, canonOf, rulesOf}
-use Rattle.bundle.specs.Normal.{over}
 use Rattle.bundle.specs.Each.{slotOf, took, pickAt}
 use Rattle.bundle_reader.proofs.ChoiceLaws.{choice-room}
 use Rattle.bundle_reader.proofs.EachLaws.{choice-taken, choice-row, choice-slot, over-none, over-length, over-room, over-more, wordAfter, word-none, word-more, word-all, pick-name}
