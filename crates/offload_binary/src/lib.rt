@@ -2,6 +2,8 @@
 // `offload_binary_parts`, `offload_binary_reader`, `offload_binaries`, `offload_binary_writer` and `offload_binary_list`.
 
 // A part of lent bytes: the place of its first byte, and its length.
+#![tactic(auto)]
+
 #[repr(C)]
 #[derive(Drop)]
 pub struct Part {

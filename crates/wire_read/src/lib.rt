@@ -1,5 +1,7 @@
 // Bytes read: little-endian words, the common start of two byte strings, equality and order, the first of a byte.
 // Each function is total: a byte past the end counts 0.
+#![tactic(auto)]
+
 ghost use Rattle.std.specs.Prelude.{◌≡◌, ℕ, ◌+◌, ◌-◌, ◌^◌, ◌<◌, ◌≤◌, ◌⊎◌, ◌↔◌, true, ◌&&◌, leb, eqb, length, get_or};
 ghost use Rattle.wire.specs.First.{first};
 ghost use Rattle.wire.specs.Word.{word};

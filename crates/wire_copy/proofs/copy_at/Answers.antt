@@ -1,0 +1,54 @@
+use borrow.Author.Rules.{rules}
+use native.Mathlib.Omega.{arith}
+use mathlib.Core.Path.{◌≡◌, refl, sym, ◌∙◌}
+use mathlib.Core.Logic.{⊎_elim}
+use Prim.Native.Nat.{◌≤◌, ◌<◌, ◌-◌, ◌+◌}
+use lib.ListN.{length}
+use lib.Seq.{paste, paste-zero}
+use Rattle.wire.proofs.OverwriteLaws.{paste_part, paste_all, overwrite-not}
+use Rattle.wire_copy.proofs.copy_at.Goals as goal
+
+-- what holds of n after the `if`
+part : (c : tie.Joined3 invariant-loop decreases-loop) → (c.if3.n ≤ 16384) × ((0 < c.if3.n) × (c.before.before.loop.i + c.if3.n ≤ length c.before.before.before.before.before.before.before.args.src.now))
+part c = ⊎_elim (λ w. omega arith) (λ w. omega arith) c.if3.branch
+
+pub returns-then-out-at : goal.returns-then-out-at
+returns-then-out-at c = let a = c.args in sym (overwrite-not a.out.now a.at a.src.now (omega arith))
+
+pub returns-then-out-at-2 : goal.returns-then-out-at-2
+returns-then-out-at-2 c = let a = c.args in sym (overwrite-not a.out.now a.at a.src.now (omega arith))
+
+pub loop-i-init : goal.loop-i-init
+loop-i-init c = let a = c.args in (search rules, (paste-zero a.out.now a.at a.src.now, refl))
+
+pub copy_part-requires : goal.copy_part-requires
+copy_part-requires c = let h = part c in omega arith
+
+pub overflow_add-i : goal.overflow_add-i
+overflow_add-i c = let h = part c in omega arith
+
+pub loop-i-smaller : goal.loop-i-smaller
+loop-i-smaller c = let h = part c in omega arith
+
+pub loop-i-preserved : goal.loop-i-preserved
+loop-i-preserved c =
+    let h = part c in
+    let l = c.loop-i in
+    let a = c.args in
+    let t = c.copy_part in (
+      omega arith,
+      (
+        t.ensures ∙ rw l.invariant.1.0 (paste_part a.out.now a.at a.src.now l.i c.if-n-gt-PART.n (omega arith) l.invariant.0),
+        t.auto.0 ∙ l.invariant.1.1,
+      ),
+    )
+
+pub shape_of-out : goal.shape_of-out
+shape_of-out c = c.loop-i.invariant.1.1
+
+pub returns : goal.returns
+returns c =
+    let l = c.loop-i in
+    let a = c.args in
+    let e : l.i ≡ length a.src.now = omega arith in
+    l.invariant.1.0 ∙ rw e (paste_all a.out.now a.at a.src.now (omega arith))

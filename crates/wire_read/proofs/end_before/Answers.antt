@@ -1,0 +1,26 @@
+use mathlib.Core.Path.{sym, ◌∙◌}
+use native.Mathlib.Omega.{arith}
+use borrow.Author.Rules.{rules}
+use Rattle.wire_read.proofs.BigEndianLaws.{before_big, before_even}
+use Rattle.wire_read.proofs.end_before.Goals as goal
+
+pub returns-then-x-y : goal.returns-then-x-y
+returns-then-x-y c =
+    let a = c.args in
+    let pre = c.requires in
+    before_even a.a.now a.b.now
+    (λ k. omega (arith, c.type_inv.a k))
+    (λ k. omega (arith, c.type_inv.b k))
+    8 a.at pre.0 pre.1
+    (sym c.big8_at-x.ensures ∙ c.if-x-y.true ∙ c.big8_at-y.ensures)
+
+pub returns : goal.returns
+returns c =
+    let a = c.args in
+    let x = c.big8_at-x.ensures in
+    let y = c.big8_at-y.ensures in
+    rw (x, y)
+    (before_big a.a.now a.b.now
+    (λ k. omega (arith, c.type_inv.a k))
+    (λ k. omega (arith, c.type_inv.b k))
+    8 a.at c.requires.0 (λ e. c.if-x-y.false (x ∙ e ∙ sym y)))

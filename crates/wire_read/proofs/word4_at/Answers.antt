@@ -1,0 +1,11 @@
+use native.Mathlib.Omega.{arith}
+use mathlib.Core.Path.{sym}
+use Rattle.wire.proofs.WordLaws.{word_split, word-beyond}
+use borrow.Author.Rules.{rules}
+use Rattle.wire_read.proofs.word4_at.Goals as goal
+
+pub returns-then-s-at : goal.returns-then-s-at
+returns-then-s-at c = let a = c.args in (sym (word-beyond 4 a.s.now a.at c.if-s-at.true), omega arith)
+
+pub returns : goal.returns
+returns c = let a = c.args in (omega (arith, word_split 2 2 a.s.now a.at), omega arith)
