@@ -15,7 +15,7 @@ pub(crate) const BOTH: usize = 68;
 
 // How many entries of the left and of the right go, how many differences that makes, none or one, and which: its letter, where its ID starts and how long
 // that is, and the first byte at which images differ.
-#[derive(Drop)]
+#[derive(Clone, Copy)]
 struct Turn {
     left: usize,
     right: usize,

@@ -18,7 +18,7 @@ const COMPARE_LIMIT: usize = 32768;
 const LENGTH: usize = 1;
 
 // A bundle that was read: what refuses it, or 0 and how many entries it has.
-#[derive(Drop)]
+#[derive(Clone, Copy)]
 struct Side {
     number: usize,
     count: usize,

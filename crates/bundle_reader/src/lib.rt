@@ -31,7 +31,7 @@ use entry_compare::Relation;
 use entry_id::Reading;
 
 // The table of a bundle: what of 1 to 4 refuses it; where nothing does, 0, 0, the count and where the table ends.
-#[derive(Drop)]
+#[derive(Clone, Copy)]
 struct Table {
     number: usize,
     place: usize,
@@ -40,21 +40,21 @@ struct Table {
 }
 
 // The entry that a device name chooses: 0 and its index; or a refusal and 0.
-#[derive(Drop)]
+#[derive(Clone, Copy)]
 struct Choice {
     number: usize,
     index: usize,
 }
 
 // A refusal; number 0: nothing is refused.
-#[derive(Drop)]
+#[derive(Clone, Copy)]
 pub struct Refusal {
     pub number: usize,
     pub place: usize,
 }
 
 // A bundle that was examined: the refusal, or 0, 0, the entry count and the rows; records of zeros in every other place.
-#[derive(Drop)]
+#[derive(Clone, Copy)]
 pub struct Examined {
     pub number: usize,
     pub place: usize,

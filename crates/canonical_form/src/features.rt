@@ -27,7 +27,7 @@ fn sign_at(id: &[u8], from: usize) -> usize
 }
 
 // What was read: whether every piece is a feature, and how many there are.
-#[derive(Drop)]
+#[derive(Clone, Copy)]
 pub(crate) struct Found {
     pub ok: bool,
     pub n: usize,
@@ -83,7 +83,7 @@ pub(crate) fn chunk(id: &[u8], s: usize) -> &[u8]
 }
 
 // How two names stand to each other, by one comparison.
-#[derive(Drop)]
+#[derive(Clone, Copy)]
 struct Standing {
     before: bool,
     same: bool,
@@ -112,7 +112,7 @@ fn compared(a: &[u8], b: &[u8]) -> Standing
 }
 
 // Whether a name is new, and whether its feature stays where it is.
-#[derive(Drop)]
+#[derive(Clone, Copy)]
 struct Placed {
     ok: bool,
     still: bool,
@@ -151,7 +151,7 @@ fn place(id: &[u8], t: &mut [usize], k: usize, n: usize) -> Placed
 }
 
 // Whether the names are apart, and whether the features were in order.
-#[derive(Drop)]
+#[derive(Clone, Copy)]
 pub(crate) struct Sorted {
     pub ok: bool,
     pub tidy: bool,

@@ -90,7 +90,7 @@ fn processor(id: &[u8], a: usize, e: usize) -> usize
 }
 
 // The head of an ID: the canonical form has `dashes` more '-', at `at`; it ends at `stop`; `proc` says whether a processor is named.
-#[derive(Drop)]
+#[derive(Clone, Copy)]
 pub(crate) struct Head {
     pub ok: bool,
     pub at: usize,

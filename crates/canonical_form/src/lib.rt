@@ -11,7 +11,7 @@ ghost use Rattle.entry_id.specs.Canonical.{kind_part, after_kind, head_number, k
 ghost use Rattle.canonical_form.specs.Heads.{Kinded};
 
 // A canonical form that was made: its length, and a number made from its head. Forms that a test of `entry_compare` relates have equal keys.
-#[derive(Drop)]
+#[derive(Clone, Copy)]
 pub struct Form {
     pub length: usize,
     pub key: u64,

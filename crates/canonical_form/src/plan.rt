@@ -8,7 +8,7 @@ use crate::head::read_head;
 
 // What an ID says. Its canonical form has the text up to `upto`, with the dashes put in at `at`, and then the first n spans. The head ends at `stop`.
 // Where the features stand in order, the text is taken whole and no span is left.
-#[derive(Drop)]
+#[derive(Clone, Copy)]
 pub(crate) struct Plan {
     pub ok: bool,
     pub at: usize,

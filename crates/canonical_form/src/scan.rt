@@ -40,7 +40,7 @@ fn processor_byte(b: u8) -> bool
 }
 
 // A class of bytes.
-#[derive(Drop)]
+#[derive(Clone, Copy)]
 pub(crate) enum Class {
     Field,
     Name,

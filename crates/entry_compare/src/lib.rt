@@ -1,4 +1,6 @@
 // The tests on two canonical forms: compatible, the same meaning, mixed. Each goes up to the first difference; hip and hipv4 are one kind.
+#![tactic(auto)]
+
 ghost use Rattle.std.specs.Prelude.{◌≡◌, ◌+◌, ◌≤◌, true, false, length};
 ghost use Rattle.wire.specs.Lists.{any, agree};
 ghost use Rattle.wire.specs.Bytes.{same, common};

@@ -3,7 +3,7 @@
 // By which rules an ID is read: the general ones, or the profile's for AMD's cards.
 #![tactic(auto)]
 
-#[derive(Drop)]
+#[derive(Clone, Copy)]
 pub enum Reading {
     General,
     Profile,

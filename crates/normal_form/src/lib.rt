@@ -80,7 +80,7 @@ fn order_of(rising: bool, texts: &[u8], lens: &[usize], n: usize) -> [usize; 64]
 // ---- lengths
 
 // Where the table of some entries ends, and the length of their packed form.
-#[derive(Drop)]
+#[derive(Clone, Copy)]
 struct Lengths {
     end: usize,
     all: usize,

@@ -5,7 +5,7 @@
 #![tactic(auto)]
 
 #[repr(C)]
-#[derive(Drop)]
+#[derive(Clone, Copy)]
 pub struct Part {
     pub start: usize,
     pub len: usize,
@@ -13,14 +13,14 @@ pub struct Part {
 
 // A string pair: the parts that hold its key and its text, without their zero bytes.
 #[repr(C)]
-#[derive(Drop)]
+#[derive(Clone, Copy)]
 pub struct StringPair {
     pub key: Part,
     pub text: Part,
 }
 
 // The entry of a binary, its offsets counted from the binary's first byte: the string table starts at `table` and has `count` pairs.
-#[derive(Drop)]
+#[derive(Clone, Copy)]
 pub struct Entry {
     pub image_kind: u64,
     pub offload_kind: u64,
@@ -31,7 +31,7 @@ pub struct Entry {
 }
 
 // What a binary holds, places counted from the first byte of all: its string pairs are the first `count` of `pairs`.
-#[derive(Drop)]
+#[derive(Clone, Copy)]
 pub struct Binary {
     pub start: usize,
     pub size: usize,
@@ -44,7 +44,7 @@ pub struct Binary {
 }
 
 // OK and a binary; or END or a refusal, its place, and no binary.
-#[derive(Drop)]
+#[derive(Clone, Copy)]
 pub struct Answer {
     pub number: usize,
     pub place: usize,
@@ -52,21 +52,21 @@ pub struct Answer {
 }
 
 // Where a reader stands: the first byte not yet read, and how many binaries it has handed back.
-#[derive(Drop)]
+#[derive(Clone, Copy)]
 pub struct Cursor {
     pub position: usize,
     pub taken: usize,
 }
 
 // What a call answers, and where the reader then stands.
-#[derive(Drop)]
+#[derive(Clone, Copy)]
 pub struct Step {
     pub answer: Answer,
     pub cursor: Cursor,
 }
 
 // The kinds and the flags of a binary.
-#[derive(Drop)]
+#[derive(Clone, Copy)]
 pub struct Tags {
     pub image_kind: u64,
     pub offload_kind: u64,
@@ -74,7 +74,7 @@ pub struct Tags {
 }
 
 // OK and the length written; or a refusal, place 0, and nothing written.
-#[derive(Drop)]
+#[derive(Clone, Copy)]
 pub struct Written {
     pub number: usize,
     pub place: usize,
@@ -82,7 +82,7 @@ pub struct Written {
 }
 
 // OK, the bytes copied and the spans reported; or a refusal and its place, and nothing written.
-#[derive(Drop)]
+#[derive(Clone, Copy)]
 pub struct Recovered {
     pub number: usize,
     pub place: usize,

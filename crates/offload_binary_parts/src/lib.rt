@@ -1,4 +1,6 @@
 // What the reader and the writer of an offload binary share: parts of lent bytes, and the tests that both make.
+#![tactic(auto)]
+
 ghost use Rattle.std.specs.Prelude.{◌≡◌, [], ◌+◌, ◌<◌, ltb};
 ghost use Rattle.wire.specs.Bytes.{same};
 ghost use Rattle.wire.specs.Stop.{earlier};

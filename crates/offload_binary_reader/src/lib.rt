@@ -26,13 +26,13 @@ fn string_len(o: &[u8], at: usize) -> usize
     n
 }
 
-#[derive(Drop)]
+#[derive(Clone, Copy)]
 struct ReadPair {
     bad: bool,
     pair: StringPair,
 }
 
-#[derive(Drop)]
+#[derive(Clone, Copy)]
 struct ReadPairs {
     bad: bool,
     pairs: [StringPair; 32],

@@ -29,7 +29,7 @@ const HEAD: u64 = 0x1AD10FF10;
 const BLOCK: usize = 64;
 
 // The binaries found: how many, their bytes together, and their parts.
-#[derive(Drop)]
+#[derive(Clone, Copy)]
 struct Finds {
     count: usize,
     total: usize,

@@ -10,7 +10,7 @@ ghost use Rattle.offload_binary_writer.specs.Code.{LayoutIs, word_bytes, head_wo
 use offload_binary::{Part, StringPair, Tags, Written};
 
 // Where the parts of a binary stand: its strings from `strings` to `end`, its image from `image` to `stop`.
-#[derive(Drop)]
+#[derive(Clone, Copy)]
 struct Layout {
     strings: usize,
     end: usize,

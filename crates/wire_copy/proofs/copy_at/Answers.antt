@@ -6,11 +6,12 @@ use Prim.Native.Nat.{◌≤◌, ◌<◌, ◌-◌, ◌+◌}
 use lib.ListN.{length}
 use lib.Seq.{paste, paste-zero}
 use Rattle.wire.proofs.OverwriteLaws.{paste_part, paste_all, overwrite-not}
+use Rattle.wire_copy.proofs.copy_at.Goals.{Joined-n-gt-PART}
 use Rattle.wire_copy.proofs.copy_at.Goals as goal
 
 -- what holds of n after the `if`
-part : (c : tie.Joined3 invariant-loop decreases-loop) → (c.if3.n ≤ 16384) × ((0 < c.if3.n) × (c.before.before.loop.i + c.if3.n ≤ length c.before.before.before.before.before.before.before.args.src.now))
-part c = ⊎_elim (λ w. omega arith) (λ w. omega arith) c.if3.branch
+part : (c : Joined-n-gt-PART) → (c.if-n-gt-PART.n ≤ 16384) × ((0 < c.if-n-gt-PART.n) × (c.loop-i.i + c.if-n-gt-PART.n ≤ length c.args.src.now))
+part c = ⊎_elim (λ w. omega arith) (λ w. omega arith) c.if-n-gt-PART.branch
 
 pub returns-then-out-at : goal.returns-then-out-at
 returns-then-out-at c = let a = c.args in sym (overwrite-not a.out.now a.at a.src.now (omega arith))
@@ -22,17 +23,17 @@ pub loop-i-init : goal.loop-i-init
 loop-i-init c = let a = c.args in (search rules, (paste-zero a.out.now a.at a.src.now, refl))
 
 pub copy_part-requires : goal.copy_part-requires
-copy_part-requires c = let h = part c in omega arith
+copy_part-requires c = let h = part (goal.at.copy_part-requires c).Joined-n-gt-PART in omega arith
 
 pub overflow_add-i : goal.overflow_add-i
-overflow_add-i c = let h = part c in omega arith
+overflow_add-i c = let h = part (goal.at.overflow_add-i c).Joined-n-gt-PART in omega arith
 
 pub loop-i-smaller : goal.loop-i-smaller
-loop-i-smaller c = let h = part c in omega arith
+loop-i-smaller c = let h = part (goal.at.loop-i-smaller c).Joined-n-gt-PART in omega arith
 
 pub loop-i-preserved : goal.loop-i-preserved
 loop-i-preserved c =
-    let h = part c in
+    let h = part (goal.at.loop-i-preserved c).Joined-n-gt-PART in
     let l = c.loop-i in
     let a = c.args in
     let t = c.copy_part in (

@@ -9,7 +9,7 @@ use Rattle.wire.proofs.OverwriteLaws.{paste_part, paste_all, overwrite-not}
 use Rattle.wire_copy.proofs.copy_at.Given as goal
 
 abbrev pub invariant-loop-i : goal.invariant-loop-i
-invariant-loop-i l = (l.i ≤ length l.at) × ((l.initial.i ≡ paste l.initial.out l.out l.at l.i) × (length l.initial.i ≡ length l.initial.out))
+invariant-loop-i l = (l.i ≤ length l.src) × ((l.out ≡ paste l.initial.out l.at l.src l.i) × (length l.out ≡ length l.initial.out))
 
 abbrev pub decreases-loop-i : goal.decreases-loop-i
-decreases-loop-i l = length l.at - l.i
+decreases-loop-i l = length l.src - l.i
