@@ -1,4 +1,6 @@
 // Entry IDs of offload bundles: the canonical form of a text.
+#![tactic(auto)]
+
 mod features;
 mod head;
 mod plan;

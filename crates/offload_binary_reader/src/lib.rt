@@ -1,4 +1,6 @@
 // Reads one of LLVM's offload binaries: what stands at a position of lent bytes.
+#![tactic(auto)]
+
 ghost use Rattle.std.specs.Prelude.{◌≡◌, ◌+◌, ◌*◌, ◌^◌, ◌<◌, ◌≤◌, length, take, drop};
 ghost use Rattle.offload_binary.specs.Binary.{no_binary, bad_head, bad_span, bad_table, bad_image, entry_of, binary_at, refused as refusal};
 ghost use Rattle.offload_binary_reader.specs.Code.{string_len, read_pair, read_pairs, read_strings, body_answer};

@@ -1,17 +1,17 @@
 use borrow.Author.Rules.{rules}
 use native.Mathlib.Omega.{arith}
 use mathlib.Core.Path.{◌≡◌, refl, sym, ◌∙◌}
-use mathlib.Core.Logic.{⊎_elim}
 use Prim.Native.Nat.{◌≤◌, ◌<◌, ◌-◌, ◌+◌}
 use lib.ListN.{length}
 use lib.Seq.{paste, paste-zero}
 use Rattle.wire.proofs.OverwriteLaws.{paste_part, paste_all, overwrite-not}
-use Rattle.wire_copy.proofs.copy_at.Goals.{Joined-n-gt-PART}
+use Rattle.wire_copy.proofs.copy_at.Goals.{Joined-n-gt-PART, then-n-gt-PART, else-n-gt-PART}
 use Rattle.wire_copy.proofs.copy_at.Goals as goal
 
 -- what holds of n after the `if`
 part : (c : Joined-n-gt-PART) → (c.if-n-gt-PART.n ≤ 16384) × ((0 < c.if-n-gt-PART.n) × (c.loop-i.i + c.if-n-gt-PART.n ≤ length c.args.src.now))
-part c = ⊎_elim (λ w. omega arith) (λ w. omega arith) c.if-n-gt-PART.branch
+part c =
+    elim c.if-n-gt-PART.branch [ then-n-gt-PART w ↦ omega arith | else-n-gt-PART w ↦ omega arith ]
 
 pub returns-then-out-at : goal.returns-then-out-at
 returns-then-out-at c = let a = c.args in sym (overwrite-not a.out.now a.at a.src.now (omega arith))
@@ -40,7 +40,7 @@ loop-i-preserved c =
       omega arith,
       (
         t.ensures ∙ rw l.invariant.1.0 (paste_part a.out.now a.at a.src.now l.i c.if-n-gt-PART.n (omega arith) l.invariant.0),
-        t.auto.0 ∙ l.invariant.1.1,
+        t.auto.out ∙ l.invariant.1.1,
       ),
     )
 
