@@ -24,8 +24,8 @@ more : (c : Else-not-ends) → c.args.e < c.processor_end-r.result
 more c =
     ends_later c.args.id.now _ _ c.processor_end-r.ensures.low (sym c.ends.ensures ∙ c.if-ends.false) (sym c.ends-2.ensures ∙ c.if-not-ends.false)
 
-head : (c : Else-not-ends) → Run not_colon c.args.id.now c.args.a c.processor_end-r.result
-head c = let h = run c.After-processor_end-r in head_run _ _ _ h.low h.high h.passed (sym c.ends-2.ensures ∙ c.if-not-ends.false)
+head : (c : Else-not-ends) → Run processor_byte c.args.id.now c.args.a c.processor_end-r.result → Run not_colon c.args.id.now c.args.a c.processor_end-r.result
+head c h = head_run _ _ _ h.low h.high h.passed (sym c.ends-2.ensures ∙ c.if-not-ends.false)
 
 pub returns-then-ends : goal.returns-then-ends
 returns-then-ends c =
@@ -54,12 +54,12 @@ pub returns-then-id-a : goal.returns-then-id-a
 returns-then-id-a c =
     record {
       found = λ k. absurd (omega arith);
-      missing = λ z. ap processor_shaped (head_part _ _ _ (head (goal.at.returns-then-id-a c).Else-not-ends)) ∙ processor_ends _ _ _ (run (goal.at.returns-then-id-a c).After-processor_end-r) (omega (arith, more (goal.at.returns-then-id-a c).Else-not-ends, c.requires.1.low)) ∙ ap not c.if-id-a.true;
+      missing = λ z. ap processor_shaped (head_part _ _ _ (head (goal.at.returns-then-id-a c).Else-not-ends (run (goal.at.returns-then-id-a c).After-processor_end-r))) ∙ processor_ends _ _ _ (run (goal.at.returns-then-id-a c).After-processor_end-r) (omega (arith, more (goal.at.returns-then-id-a c).Else-not-ends, c.requires.1.low)) ∙ ap not c.if-id-a.true;
     }
 
 pub returns : goal.returns
 returns c =
     record {
-      found = λ k. record { run = head (goal.at.returns c).Else-not-ends; shaped = of_true _ (processor_ends _ _ _ (run (goal.at.returns c).After-processor_end-r) (omega (arith, more (goal.at.returns c).Else-not-ends, c.requires.1.low)) ∙ ap not c.if-id-a.false) };
+      found = λ k. record { run = head (goal.at.returns c).Else-not-ends (run (goal.at.returns c).After-processor_end-r); shaped = of_true _ (processor_ends _ _ _ (run (goal.at.returns c).After-processor_end-r) (omega (arith, more (goal.at.returns c).Else-not-ends, c.requires.1.low)) ∙ ap not c.if-id-a.false) };
       missing = λ z. absurd (omega (arith, more (goal.at.returns c).Else-not-ends));
     }

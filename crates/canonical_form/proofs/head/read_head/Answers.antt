@@ -14,13 +14,13 @@ dash-there : (c : Else-byte-ne45) → get_or c.args.id.now c.triple-d.result 0 �
 dash-there c = sym c.byte.ensures ∙ c.if-byte-ne45.false
 
 dash-inside : (c : Else-byte-ne45) → c.triple-d.result < length c.args.id.now
-dash-inside c = byte_inside c.args.id.now c.triple-d.result 44 (dash-there c.Else-byte-ne45)
+dash-inside c = byte_inside c.args.id.now c.triple-d.result 44 (dash-there c)
 
 fifth : (c : After-field_end-e) → Fifth c.args.id.now c.triple-d.result c.field_end-e.result
 fifth c =
     let d = c.triple-d.result in
     let r : Run field_byte c.args.id.now (d + 1) c.field_end-e.result = c.field_end-e.ensures in
-    record { triple = four-there c.Else-d-eq0; dash = dash-there c.Else-byte-ne45; run = rw (add-one d) at r }
+    record { triple = c.triple-d.ensures.found (omega (arith, c.if-d-eq0.false)); dash = sym c.byte.ensures ∙ c.if-byte-ne45.false; run = rw (add-one d) at r }
 
 named : (c : After-is_proc) → c.is_proc.result ≡ names_processor (part c.args.id.now (suc c.triple-d.result) c.field_end-e.result)
 unfolding part
