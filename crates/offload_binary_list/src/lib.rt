@@ -1,4 +1,6 @@
 // The binary writer over a lent list of pairs.
+#![tactic(auto)]
+
 ghost use Rattle.std.specs.Prelude.{◌≡◌, ◌<◌, length, get_or, set};
 ghost use Rattle.offload_binary.specs.Binary.{no_pair};
 ghost use Rattle.offload_binary.specs.Writer.{write};

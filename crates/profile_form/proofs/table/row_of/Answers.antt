@@ -1,4 +1,3 @@
--- `profile_form::row_of` meets its contract. Assumes nothing.
 use native.Mathlib.Omega.{arith}
 use Prim.Native.Nat.{ℕ, ◌<◌}
 use mathlib.Core.Path.{◌≡◌, refl, sym, ap, ◌∙◌}
@@ -13,9 +12,9 @@ use Rattle.entry_id.specs.Processors.{processors, names}
 use Rattle.profile_form.specs.Table.{mark, row_for, rows_for, rows_from, table, name_at, slot_of, placed, slots}
 use Rattle.profile_form.proofs.TableLaws.{slot-below, slot_in, row-found, row-none}
 use borrow.Author.Rules.{rules}
-use Rattle.profile_form.proofs.table.row_of.Statement.{statement}
-use Rattle.profile_form.proofs.table.row_of.Tie as tie
+use Rattle.profile_form.proofs.table.row_of.Goals as goal
 
+-- `profile_form::row_of` meets its contract. Assumes nothing.
 -- what the code reads
 module _ (w : List ℕ) (l : List ℕ) (e : l ≡ slots) (i : ℕ) (s : i ≡ slot_of w) where
   read : get_or l i 0 ≡ get_or slots (slot_of w) 0
@@ -27,30 +26,27 @@ module _ (w : List ℕ) (l : List ℕ) (e : l ≡ slots) (i : ℕ) (s : i ≡ sl
   found : (r : Bool) (n : List ℕ) → n ≡ name_at (get_or l i 0) → r ≡ same n w → r ≡ same (name_at (get_or slots (slot_of w) 0)) w
   found r n f g = g ∙ ap (λ z. same z w) (f ∙ ap name_at read)
 
-array-read-k : tie.Need-array-read-k
-array-read-k c = omega (arith, c.slot_of.ensures, slot_in c.before.before.before.args.w.now)
+pub bounds-slots-slot_of : goal.bounds-slots-slot_of
+bounds-slots-slot_of c = omega (arith, c.slot_of.ensures, slot_in c.args.w.now)
 
-cast-k : tie.Need-overflow-cast-k
+pub overflow_cast-k : goal.overflow_cast-k
 unfolding slots placed tab slot_of head_number word word_of name_at table rows_from rows_for row_for mark processors names
-cast-k c = record { fits = omega (arith, below c.before.before.before.args.w.now _ refl c.slot_of.result c.slot_of.ensures) }
+overflow_cast-k c = record { fits = omega (arith, below c.args.w.now _ refl c.slot_of.result c.slot_of.ensures) }
 
-name-at-requires : tie.Need-name-at-requires
+pub name_at-requires : goal.name_at-requires
 unfolding slots placed tab slot_of head_number word word_of name_at table rows_from rows_for row_for mark processors names
-name-at-requires c κs = (c.before.before.before.requires, below c.before.before.before.args.w.now _ refl c.slot_of.result c.slot_of.ensures)
+name_at-requires c = (c.requires, below c.args.w.now _ refl c.slot_of.result c.slot_of.ensures)
 
-returns : tie.Need-returns
+pub returns-then-same_bytes : goal.returns-then-same_bytes
+unfolding slots placed tab slot_of head_number word word_of name_at table rows_from rows_for row_for mark processors names
+returns-then-same_bytes c =
+    let w = c.args.w.now in
+    let s = c.slot_of in
+    read w _ refl s.result s.ensures ∙ row-found w (sym (found w _ refl s.result s.ensures c.same_bytes.result _ c.name_at.ensures c.same_bytes.ensures) ∙ c.if-same_bytes.true)
+
+pub returns : goal.returns
 unfolding slots placed tab slot_of head_number word word_of name_at table rows_from rows_for row_for mark processors names
 returns c =
-    let w = c.before.before.before.before.before.before.args.w.now in
-    let s = c.before.before.before.slot_of in
-    read w _ refl s.result s.ensures ∙ row-found w (sym (found w _ refl s.result s.ensures c.before.same_bytes.result _ c.before.before.name-at.ensures c.before.same_bytes.ensures) ∙ c.if1.true)
-
-returns-2 : tie.Need-returns-2
-unfolding slots placed tab slot_of head_number word word_of name_at table rows_from rows_for row_for mark processors names
-returns-2 c =
-    let w = c.before.before.before.before.before.before.args.w.now in
-    let s = c.before.before.before.slot_of in
-    row-none w (sym (found w _ refl s.result s.ensures c.before.same_bytes.result _ c.before.before.name-at.ensures c.before.same_bytes.ensures) ∙ c.if1.false)
-
-pub row-of-spec : {M : Type 1} → statement M
-row-of-spec = tie.close (tie.spec (λ c κs. search rules) array-read-k cast-k name-at-requires (λ c κs. search rules) returns returns-2)
+    let w = c.args.w.now in
+    let s = c.slot_of in
+    row-none w (sym (found w _ refl s.result s.ensures c.same_bytes.result _ c.name_at.ensures c.same_bytes.ensures) ∙ c.if-same_bytes.false)
