@@ -1,4 +1,6 @@
 // The calls that write bundles: normalising, and the bundle writer.
+#![tactic(auto)]
+
 ghost use Rattle.std.specs.Prelude.{◌≡◌, ℕ, ◌+◌, ◌<◌, ◌≤◌, [], length, get_or, take, drop, set, replicate};
 ghost use Rattle.wire.specs.Bytes.{overwrite};
 ghost use Rattle.wire.specs.Order.{insert_by, sort_by};
@@ -366,7 +368,8 @@ fn gather(records: &[EntryRecord]) -> [EntryRecord; 64]
     let mut a = bundle_reader::no_records();
     let mut i = 0;
     while i < 64 {
-        a = put_record(a, i, record_at(records, i));
+        let b = put_record(a, i, record_at(records, i));
+        a = b;
         i += 1;
     }
     a

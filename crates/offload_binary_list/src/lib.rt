@@ -49,7 +49,8 @@ fn gather(pairs: &[StringPair]) -> [StringPair; 32]
     let mut a = offload_binary_parts::no_pairs();
     let mut i = 0;
     while i < 32 {
-        a = put_pair(a, i, pair_or_none(pairs, i));
+        let b = put_pair(a, i, pair_or_none(pairs, i));
+        a = b;
         i += 1;
     }
     a

@@ -5,14 +5,10 @@ use Rattle.entry_id.proofs.RuleLaws.{id_rules_lawful}
 use Rattle.bundle.specs.declared.PickedInTurn.{PickedInTurn}
 use Rattle.bundle_lookup.specs.Answer.{decided}
 use Rattle.bundle_lookup.proofs.AnswerLaws.{decided_is}
-use Rattle.bundle_lookup.proofs.find_image.Statement.{statement}
-use Rattle.bundle_lookup.proofs.find_image.Tie as tie
+use Rattle.bundle_lookup.proofs.find_image.Goals as goal
 
-returns : tie.Need-returns
+pub returns : goal.returns
 returns c =
-    let a = c.before.before.before.before.before.before.before.args in
-    let picked = c.before.before.before.pick-in-turn.ensures in
+    let a = c.args in
+    let picked = c.pick_in_turn-picked.ensures in
     c.decide.ensures ∙ ap (λ (t : PickedInTurn). decided t.first t.second) picked ∙ decided_is id_rules id_rules_lawful a.patch.now a.main.now a.device.now
-
-pub find-image-spec : {M : Type 1} → statement M
-find-image-spec = tie.close (tie.spec (λ c κs. search rules) (λ c κs. search rules) returns)
