@@ -26,7 +26,7 @@ here : (c : In-loop-i) → let a = c.args in let k = get_or a.order c.loop-i.i 0
 here c = c.requires.n_bound.1 c.loop-i.i (omega arith)
 
 room : (c : In-loop-i) → let a = c.args in c.loop-i.at + size_of a.rows a.order c.loop-i.i ≤ length a.out.now
-room c = let l = c.loop-i in put_room (writes c.Start) l.i l.at (omega arith) l.invariant.2
+room c = let l = c.loop-i in let a = c.args in put_room (images_writes a.src.now a.rows a.order a.out.now a.base a.n (λ k h. (c.requires.n_bound.1 k h).1) c.requires.n_in_bounds) l.i l.at (omega arith) l.invariant.2
 
 pub loop-i-init : goal.loop-i-init
 loop-i-init c = let a = c.args in (omega arith, put_none (writes (goal.at.loop-i-init c).Start), omega (arith, sum_none (size_of a.rows a.order)), refl)

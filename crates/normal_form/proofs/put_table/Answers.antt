@@ -23,7 +23,7 @@ low : (c : In-loop-i) → get_or c.args.order c.loop-i.i 0 < 64
 low c = c.requires.n_bound.1 c.loop-i.i (omega arith)
 
 room : (c : In-loop-i) → let a = c.args in c.loop-i.at + (24 + length (id_of a.texts.now a.lens.now a.order c.loop-i.i)) ≤ length a.out.now
-room c = let l = c.loop-i in put_room (writes c.Start) l.i l.at (omega arith) l.invariant.2
+room c = let l = c.loop-i in let a = c.args in put_room (table_writes a.rows a.texts.now a.lens.now a.order a.base a.out.now a.n c.requires.n_in_bounds.0) l.i l.at (omega arith) l.invariant.2
 
 pub loop-i-init : goal.loop-i-init
 loop-i-init c =
