@@ -8,11 +8,14 @@ use Rattle.bundle_compare.proofs.CompareLaws.{none_above, found_few, reported_as
 use Rattle.bundle_compare.proofs.compare.Goals as goal
 
 pub returns-then-left_number-gt0 : goal.returns-then-left_number-gt0
-returns-then-left_number-gt0 c = reported_as _ _ _ _ _ _ (left-report _ _ _ c.if-left_number-gt0.true c.read-l.ensures.number_is) c.write_refused.ensures
+returns-then-left_number-gt0 c =
+    let r = reported_as _ _ _ _ _ _ (left-report _ _ _ c.if-left_number-gt0.true c.read-l.ensures.number_is) c.write_refused.ensures in
+    record { value = r.0; out_after = r.1 }
 
 pub returns-then-right_number-gt0 : goal.returns-then-right_number-gt0
 returns-then-right_number-gt0 c =
-    reported_as _ _ _ _ _ _ (right-report _ _ _ _ (none_above _ c.if-left_number-gt0.false) c.read-l.ensures.number_is c.if-right_number-gt0.true c.read-r.ensures.number_is) c.write_refused-then-right_number-gt0.ensures
+    let r = reported_as _ _ _ _ _ _ (right-report _ _ _ _ (none_above _ c.if-left_number-gt0.false) c.read-l.ensures.number_is c.if-right_number-gt0.true c.read-r.ensures.number_is) c.write_refused-then-right_number-gt0.ensures in
+    record { value = r.0; out_after = r.1 }
 
 pub slice_bounds-find_differences-end : goal.slice_bounds-find_differences-end
 slice_bounds-find_differences-end c = sym (c.read-l.ensures.texts_room (none_above _ c.if-left_number-gt0.false))
@@ -49,6 +52,7 @@ write_differences-requires c =
 
 pub returns : goal.returns
 returns c =
-    reported_as _ _ _ _ _ _
-    (found-report _ _ _ _ _ _ _ _ _ _ c.read-l.ensures c.read-r.ensures (none_above _ c.if-left_number-gt0.false) (none_above _ c.if-right_number-gt0.false) (take c.find_differences-count.result c.find_differences-count.new.found) c.find_differences-count.ensures.3)
-    c.write_differences.ensures
+    let r = reported_as _ _ _ _ _ _
+        (found-report _ _ _ _ _ _ _ _ _ _ c.read-l.ensures c.read-r.ensures (none_above _ c.if-left_number-gt0.false) (none_above _ c.if-right_number-gt0.false) (take c.find_differences-count.result c.find_differences-count.new.found) c.find_differences-count.ensures.3)
+        c.write_differences.ensures in
+    record { value = r.0; out_after = r.1 }

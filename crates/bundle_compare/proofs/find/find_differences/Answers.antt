@@ -13,7 +13,7 @@ use Rattle.bundle_compare.proofs.find.find_differences.Goals.{After-row-1, In-lo
 use Rattle.bundle_compare.proofs.find.find_differences.Goals as goal
 
 -- both have an entry left
-inside : (c : In-loop-i) → (c.loop-i.i < length c.args.left-places.now) × (c.loop-i.j < length c.args.right-places.now)
+inside : (c : In-loop-i) → (c.loop-i.i < length c.args.left_places.now) × (c.loop-i.j < length c.args.right_places.now)
 inside c = let b = and_both _ _ c.loop-i-test.true in (ltb-true _ _ b.0, ltb-true _ _ b.1)
 
 room : (c : In-loop-i) → c.loop-i.count < length c.loop-i.found
@@ -22,12 +22,15 @@ room c = let v = c.loop-i.invariant in let h = inside c in omega (arith, h.0, h.
 -- what a turn comes to
 next : (c : After-row-1)
     → let a = c.args in let l = c.loop-i in let t = c.take_turn-t.result in
-    Progress a.left.now a.right.now a.left-texts.now a.right-texts.now a.left-places.now a.right-places.now (length a.found.now) (set l.found l.count t.row) (l.i + t.left) (l.j + t.right) (l.count + t.lines)
+    Progress a.left.now a.right.now a.left_texts.now a.right_texts.now a.left_places.now a.right_places.now (length a.found.now) (set l.found l.count t.row) (l.i + t.left) (l.j + t.right) (l.count + t.lines)
 next c =
     let l = c.loop-i in
     let t = c.take_turn-t.ensures in
-    let h = inside c.In-loop-i in
-    progress_next _ _ _ _ _ _ _ l.found l.i l.j l.count l.invariant h.0 h.1 (room c.In-loop-i) _ _ _ _ t.0 t.1
+    let v = l.invariant in
+    let b = and_both _ _ c.loop-i-test.true in
+    let left : l.i < length c.args.left_places.now = ltb-true _ _ b.0 in
+    let right : l.j < length c.args.right_places.now = ltb-true _ _ b.1 in
+    progress_next _ _ _ _ _ _ _ l.found l.i l.j l.count v left right (omega (arith, v.few, v.same_room, c.requires.short_ids.2)) _ _ _ _ t.0 t.1
 
 some : (c : After-row-1) → let t = c.take_turn-t.result in (t.left ≤ 1) × (t.right ≤ 1) × (1 ≤ t.left + t.right) × (t.lines ≤ 1)
 some c = turned_some _ _ _ _ _ _ c.take_turn-t.ensures.0
@@ -52,7 +55,7 @@ take_turn-t-requires c =
     let a = c.args in
     let l = c.loop-i in
     let h = inside (goal.at.take_turn-t-requires c).In-loop-i in
-    (c.requires.short_ids.0 _ (at_member a.left-places.now [] l.i h.0), c.requires.short_ids.1 _ (at_member a.right-places.now [] l.j h.1))
+    (c.requires.short_ids.0 _ (at_member a.left_places.now [] l.i h.0), c.requires.short_ids.1 _ (at_member a.right_places.now [] l.j h.1))
 
 pub offset_bounds-found-count : goal.offset_bounds-found-count
 offset_bounds-found-count c = omega (arith, room (goal.at.offset_bounds-found-count c).In-loop-i)

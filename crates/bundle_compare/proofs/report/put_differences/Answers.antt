@@ -10,6 +10,6 @@ use Rattle.bundle_compare.proofs.report.put_differences.Goals as goal
 pub returns : goal.returns
 returns c =
     let a = c.args in
-    let shown = difference_from a.left-texts.now a.right-texts.now in
+    let shown = difference_from a.left_texts.now a.right_texts.now in
     put_same _ _ _ _ _ _ (lines-bytes (map shown a.found.now) (length a.found.now) (sym (length-map a.found.now shown)))
     (put_then _ _ _ _ _ _ _ _ (put_then _ _ _ _ _ _ _ _ c.put_lines-last.ensures.0 c.put-end.ensures) c.put_number.ensures)

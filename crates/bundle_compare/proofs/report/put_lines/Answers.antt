@@ -24,7 +24,7 @@ loop-k-preserved c =
     let w = c.put_difference-at.ensures in (
       omega (arith, c.loop-k-test.true),
       omega (arith, l.invariant.1, w.1),
-      put_same _ _ _ _ _ _ (lines_next a.left-texts.now a.right-texts.now a.found.now l.k c.loop-k-test.true) (put_then _ _ _ _ _ _ _ _ l.invariant.2 w.0),
+      put_same _ _ _ _ _ _ (lines_next a.left_texts.now a.right_texts.now a.found.now l.k c.loop-k-test.true) (put_then _ _ _ _ _ _ _ _ l.invariant.2 w.0),
     )
 
 pub shape_of-out : goal.shape_of-out
@@ -35,4 +35,4 @@ returns c =
     let a = c.args in
     let l = c.loop-k in
     let v = l.invariant in
-    (put_same _ _ _ _ _ _ (lines_all a.left-texts.now a.right-texts.now a.found.now l.k c.loop-k-test.false) v.2, omega (arith, v.0, v.1, c.requires.0))
+    (put_same _ _ _ _ _ _ (lines_all a.left_texts.now a.right_texts.now a.found.now l.k c.loop-k-test.false) v.2, omega (arith, v.0, v.1, c.requires.0))
