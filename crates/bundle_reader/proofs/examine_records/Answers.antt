@@ -1,5 +1,4 @@
 use native.Mathlib.Omega.{arith}
-use borrow.Author.Rules.{rules}
 use Rattle.bundle_reader.proofs.examine_records.Goals as goal
 
 pub returns : goal.returns
