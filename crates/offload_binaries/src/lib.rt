@@ -1,4 +1,6 @@
 // LLVM's offload binaries laid end to end: a cursor that reads one after another, and a reader that holds the bytes.
+#![tactic(auto)]
+
 ghost use Rattle.std.specs.Prelude.{◌≡◌};
 ghost use Rattle.offload_binary.specs.Binary.{refused};
 ghost use Rattle.offload_binary.specs.Reader.{opened, next};

@@ -1,4 +1,6 @@
 // Recovers the binaries of a damaged sequence: each is copied out, and what is skipped between them is reported.
+#![tactic(auto)]
+
 ghost use Rattle.std.specs.Prelude.{◌≡◌, ◌+◌, ◌^◌, ◌<◌, ◌≤◌, false, [], ◌∷◌, map, length};
 ghost use Rattle.wire.specs.Bytes.{overwrite};
 ghost use Rattle.wire.specs.Rows.{Added};

@@ -1,4 +1,6 @@
 // Little-endian words written. A word that does not fit leaves the output as it was.
+#![tactic(auto)]
+
 ghost use Rattle.std.specs.Prelude.{◌≡◌};
 ghost use Rattle.wire.specs.Word.{bytes_of};
 ghost use Rattle.wire.specs.Bytes.{overwrite};

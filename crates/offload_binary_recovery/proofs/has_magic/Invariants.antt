@@ -1,0 +1,14 @@
+use Prim.Native.Nat.{◌+◌, ◌-◌, ◌≤◌}
+use native.Mathlib.Omega.{arith}
+use mathlib.Core.Path.{◌≡◌}
+use mathlib.Core.Bool.{false}
+use borrow.Author.Rules.{rules}
+use Rattle.offload_binary_recovery.specs.Code.{NonePasses}
+use Rattle.offload_binary_recovery.proofs.SearchLaws.{magic-not, block_more}
+use Rattle.offload_binary_recovery.proofs.has_magic.Given as goal
+
+abbrev pub invariant-loop-i : goal.invariant-loop-i
+invariant-loop-i l = (l.i ≤ 64) × (l.hit ≡ false → NonePasses l.s l.p (l.p + l.i))
+
+abbrev pub decreases-loop-i : goal.decreases-loop-i
+decreases-loop-i l = 64 - l.i

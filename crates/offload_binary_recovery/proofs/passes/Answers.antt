@@ -1,0 +1,11 @@
+use mathlib.Core.Path.{ap, ◌∙◌}
+use lib.Dec.{eqb}
+use borrow.Author.Rules.{rules}
+use Rattle.offload_binary_recovery.proofs.SearchLaws.{passes-not, passes_read}
+use Rattle.offload_binary_recovery.proofs.passes.Goals as goal
+
+pub returns-then-word8_at-ne-HEAD : goal.returns-then-word8_at-ne-HEAD
+returns-then-word8_at-ne-HEAD c = let a = c.args in passes-not a.s.now a.p _ c.word8_at.ensures c.if-word8_at-ne-HEAD.true
+
+pub returns : goal.returns
+returns c = let a = c.args in ap (λ x. eqb x.number 0) c.binary_at.ensures ∙ passes_read a.s.now a.p
