@@ -6,11 +6,11 @@ use mathlib.Core.List.{List, [], ◌∷◌, ◌++◌, Memᴰ}
 use mathlib.Core.Bool.{false, not}
 use lib.Dec.{T}
 use Rattle.wire.specs.Bytes.{same}
-use Rattle.wire.specs.Lists.{any, joined}
+use Rattle.wire.specs.Lists.{any, flattened}
 use Rattle.wire.specs.Order.{rising_by, distinct_by}
 use Rattle.wire.proofs.Bools.{by_bool, clash, and_l, and_r}
 use Rattle.wire.proofs.ByteLaws.{same_true, eq_same}
-use Rattle.wire.proofs.ListLaws.{joined_out, joined_in}
+use Rattle.wire.proofs.ListLaws.{flattened_out, flattened_in}
 use Rattle.wire.proofs.SortLaws.{sort_in, sort_out, one_list, distinct-rising, distinct_append, distinct-one, key_apart}
 use Rattle.bundle.specs.Entry.{Entry}
 use Rattle.bundle.specs.Normal.{by_id}
@@ -72,13 +72,13 @@ one-id x ds d (inr h) m =
 
 -- where the IDs of entries are distinct, those of their differences are
 module _ (g : Entry → List Difference) (h : (e : Entry) → AtMostOne e.id (g e)) where
-  ones-distinct : (es : List Entry) → T (distinct_by by_id es) → T (distinct_by by_difference_id (joined g es))
-  unfolding distinct_by joined any
+  ones-distinct : (es : List Entry) → T (distinct_by by_id es) → T (distinct_by by_difference_id (flattened g es))
+  unfolding distinct_by flattened any
   ones-distinct [] t = tt
   ones-distinct (e ∷ es) t =
-      distinct_append by_difference_id (g e) (joined g es) (one-distinct (h e)) (ones-distinct es (and_r (not (any (λ f. same e.id f.id) es)) (distinct_by by_id es) t))
+      distinct_append by_difference_id (g e) (flattened g es) (one-distinct (h e)) (ones-distinct es (and_r (not (any (λ f. same e.id f.id) es)) (distinct_by by_id es) t))
       (λ d c m n q.
-      let o = joined_out g es c n in
+      let o = flattened_out g es c n in
       key_apart by_id e es (and_l (not (any (λ f. same e.id f.id) es)) (distinct_by by_id es) t) o.0 o.1
       (sym (one-id e.id (g e) d (h e) m) ∙ q ∙ one-id o.0.id (g o.0) c (h o.0) o.2))
     where
@@ -145,21 +145,21 @@ module _ (es fs : List Entry) where
           rw (p, o) (by_bool (same e.image f.image) (λ z. absurd (u (same_true e.image f.image z))) (λ z. rw z (mathlib.Core.List.Memᴰ.head refl)))
 
   abbrev unsorted : List Difference
-  unsorted = joined of_left es ++ joined of_right fs
+  unsorted = flattened of_left es ++ flattened of_right fs
 
   all_says : (d : Difference) → Memᴰ d unsorted → Case es fs d
   all_says d m =
-      elim (mathlib.Core.List.Memᴰ.append_cases (joined of_left es) m) [
-        | inl u ↦ let o = joined_out of_left es d u in left_says o.0 d o.1 o.2
-        | inr u ↦ let o = joined_out of_right fs d u in right_says o.0 d o.1 o.2
+      elim (mathlib.Core.List.Memᴰ.append_cases (flattened of_left es) m) [
+        | inl u ↦ let o = flattened_out of_left es d u in left_says o.0 d o.1 o.2
+        | inr u ↦ let o = flattened_out of_right fs d u in right_says o.0 d o.1 o.2
       ]
 
   in_lefts : (e : Entry) (d : Difference) → Memᴰ e es → Memᴰ d (of_left e) → Memᴰ d unsorted
-  in_lefts e d m u = mathlib.Core.List.Memᴰ.append_left (joined of_right fs) (joined_in of_left es e d m u)
+  in_lefts e d m u = mathlib.Core.List.Memᴰ.append_left (flattened of_right fs) (flattened_in of_left es e d m u)
 
   all_said : T (distinct_by by_id fs) → (d : Difference) → Case es fs d → Memᴰ d unsorted
   all_said t d (in_left e m n q) = in_lefts e d m (rw q (left_said e n))
-  all_said t d (in_right f m n q) = mathlib.Core.List.Memᴰ.append_right (joined of_left es) (joined_in of_right fs f d m (rw q (right_said f n)))
+  all_said t d (in_right f m n q) = mathlib.Core.List.Memᴰ.append_right (flattened of_left es) (flattened_in of_right fs f d m (rw q (right_said f n)))
   all_said t d (in_both e f m n i u q) = in_lefts e d m (rw q (both_said t e f n i u))
 
   right-alone : (f : Entry) (d : Difference) → Memᴰ d (of_right f) → NoId f.id es
@@ -178,10 +178,10 @@ module _ (es fs : List Entry) where
 
   all_distinct : T (distinct_by by_id es) → T (distinct_by by_id fs) → T (distinct_by by_difference_id unsorted)
   all_distinct s t =
-      distinct_append by_difference_id (joined of_left es) (joined of_right fs) (ones-distinct of_left left_singles es s) (ones-distinct of_right right_singles fs t)
+      distinct_append by_difference_id (flattened of_left es) (flattened of_right fs) (ones-distinct of_left left_singles es s) (ones-distinct of_right right_singles fs t)
       (λ d c m n q.
-      let o = joined_out of_left es d m in
-      let p = joined_out of_right fs c n in
+      let o = flattened_out of_left es d m in
+      let p = flattened_out of_right fs c n in
       right-alone p.0 c p.2 o.0 o.1
       (sym (one-id o.0.id (of_left o.0) d (left_singles o.0) o.2) ∙ q ∙ one-id p.0.id (of_right p.0) c (right_singles p.0) p.2))
 

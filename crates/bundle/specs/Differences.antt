@@ -2,7 +2,7 @@
 use Rattle.std.specs.Prelude.{ℕ, zero, suc, ◌+◌, ◌/◌, ◌%◌, cond, List, [], ◌∷◌, ◌++◌, map, eqb, ltb, length}
 use Prim.Native.Char.{code}
 use Rattle.wire.specs.Bytes.{bytes, same, common, overwrite}
-use Rattle.wire.specs.Lists.{joined}
+use Rattle.wire.specs.Lists.{joined, flattened}
 use Rattle.wire.specs.Order.{sort_by}
 use Rattle.wire.specs.Stop.{Stop, ◌⨾◌, stop_if}
 use Rattle.entry_id.specs.IdRules.{IdRules}
@@ -56,8 +56,8 @@ by_difference_id d = d.id
 unfoldable pub differences_of : List Entry → List Entry → List Difference
 differences_of es fs =
     sort_by by_difference_id
-    (joined (λ e. left_against e (with_id e.id fs)) es
-    ++ joined (λ f. right_against f (with_id f.id es)) fs)
+    (flattened (λ e. left_against e (with_id e.id fs)) es
+    ++ flattened (λ f. right_against f (with_id f.id es)) fs)
 
 -- ---- text
 

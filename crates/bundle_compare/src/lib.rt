@@ -1,4 +1,6 @@
 // The report on the differences of two bundles.
+#![tactic(auto)]
+
 mod find;
 mod report;
 

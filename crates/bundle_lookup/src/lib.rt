@@ -1,4 +1,6 @@
 // The image for a device name from two bundles, a patch before the main one.
+#![tactic(auto)]
+
 ghost use Rattle.std.specs.Prelude.{◌≡◌, ◌+◌, ◌≤◌, length, take, drop};
 ghost use Rattle.entry_id.specs.Rules.{id_rules};
 ghost use Rattle.bundle.specs.Lookup.{numbers_of, bundle_of, lookup, lookup_image};

@@ -1,4 +1,6 @@
 // The check of a bundle, the pick of the image for a device name or for each of several, and the entry at an index.
+#![tactic(auto)]
+
 mod each;
 mod turn;
 

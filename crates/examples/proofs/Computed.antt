@@ -1,7 +1,7 @@
 -- The tables of examples, by computation. Assumes nothing.
 use mathlib.Core.Path.{refl}
 use Rattle.wire.specs.Bytes.{empty, same, before, common, overwrite}
-use Rattle.wire.specs.Lists.{every, any, agree, total, joined, tab}
+use Rattle.wire.specs.Lists.{every, any, agree, total, joined, flattened, tab}
 use Rattle.wire.specs.Order.{insert_by, sort_by, rising_by}
 use Rattle.wire.specs.Bits.{bits_below, count_below}
 use Rattle.wire.specs.Word.{bytes_of, word_of, word}
@@ -130,7 +130,7 @@ lookup_examples = record {
 }
 
 pub compare_examples : CompareExamples
-unfolding bundles common overwrite joined met with_id left_against right_against differences_of decimal_of decimal line printed last_line difference_lines refused_line refused_by differences input_stop report reported
+unfolding bundles common overwrite joined flattened met with_id left_against right_against differences_of decimal_of decimal line printed last_line difference_lines refused_line refused_by differences input_stop report reported
 compare_examples = record {
   whole = refl;
   whole_length = refl;

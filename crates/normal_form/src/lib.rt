@@ -1,4 +1,6 @@
 // The calls that write bundles: normalising, and the bundle writer.
+#![tactic(auto)]
+
 ghost use Rattle.std.specs.Prelude.{◌≡◌, ℕ, ◌+◌, ◌<◌, ◌≤◌, [], length, get_or, take, drop, set, replicate};
 ghost use Rattle.wire.specs.Bytes.{overwrite};
 ghost use Rattle.wire.specs.Order.{insert_by, sort_by};
@@ -36,14 +38,12 @@ fn sift(texts: &[u8], lens: &[usize], n: usize, order: &mut [usize], i: usize)
     }
 }
 
-// The indices of n entries, in rising order of the texts in their slots. There are at most 64: for more, zeros.
-pub fn rising_order(texts: &[u8], lens: &[usize], n: usize) -> [usize; 64]
-    ensures { (length result ≡ 64) × (n ≤ 64 → take n result ≡ sort_by (text texts.now lens.now) (up_to n)) × (64 < n → result ≡ replicate 64 0) }
+// The indices of n entries, in rising order of the texts in their slots.
+fn sorted(texts: &[u8], lens: &[usize], n: usize) -> [usize; 64]
+    requires { n ≤ 64 }
+    ensures { (length result ≡ 64) × (take n result ≡ sort_by (text texts.now lens.now) (up_to n)) }
 {
     let mut order = [0usize; 64];
-    if 64 < n {
-        return order;
-    }
     let mut i = n;
     while 0 < i {
         i -= 1;
@@ -51,6 +51,16 @@ pub fn rising_order(texts: &[u8], lens: &[usize], n: usize) -> [usize; 64]
         sift(texts, lens, n, &mut order, i);
     }
     order
+}
+
+// The same of any number of entries. There are at most 64: for more, zeros.
+pub fn rising_order(texts: &[u8], lens: &[usize], n: usize) -> [usize; 64]
+    ensures { (length result ≡ 64) × (n ≤ 64 → take n result ≡ sort_by (text texts.now lens.now) (up_to n)) × (64 < n → result ≡ replicate 64 0) }
+{
+    if 64 < n {
+        return [0usize; 64];
+    }
+    sorted(texts, lens, n)
 }
 
 // The indices as they stand.
@@ -72,7 +82,7 @@ fn order_of(rising: bool, texts: &[u8], lens: &[usize], n: usize) -> [usize; 64]
     ensures { (length result ≡ 64) × Ordered rising texts.now lens.now n result }
 {
     if rising {
-        return rising_order(texts, lens, n);
+        return sorted(texts, lens, n);
     }
     as_given()
 }
@@ -366,7 +376,8 @@ fn gather(records: &[EntryRecord]) -> [EntryRecord; 64]
     let mut a = bundle_reader::no_records();
     let mut i = 0;
     while i < 64 {
-        a = put_record(a, i, record_at(records, i));
+        let b = put_record(a, i, record_at(records, i));
+        a = b;
         i += 1;
     }
     a

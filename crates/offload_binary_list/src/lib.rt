@@ -1,4 +1,6 @@
 // The binary writer over a lent list of pairs.
+#![tactic(auto)]
+
 ghost use Rattle.std.specs.Prelude.{◌≡◌, ◌<◌, length, get_or, set};
 ghost use Rattle.offload_binary.specs.Binary.{no_pair};
 ghost use Rattle.offload_binary.specs.Writer.{write};
@@ -47,7 +49,8 @@ fn gather(pairs: &[StringPair]) -> [StringPair; 32]
     let mut a = offload_binary_parts::no_pairs();
     let mut i = 0;
     while i < 32 {
-        a = put_pair(a, i, pair_or_none(pairs, i));
+        let b = put_pair(a, i, pair_or_none(pairs, i));
+        a = b;
         i += 1;
     }
     a

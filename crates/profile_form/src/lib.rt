@@ -1,4 +1,6 @@
 // The canonical form of an entry ID by a reading: the general one, or the profile's for AMD's cards.
+#![tactic(auto)]
+
 mod parts;
 mod table;
 

@@ -1,7 +1,7 @@
 -- What the definitions compute to: a proof that names one of these on its `unfolding` line opens all that stands on its own line.
 -- Assumes nothing.
 use Rattle.wire.specs.Bytes.{common, overwrite}
-use Rattle.wire.specs.Lists.{total, joined, tab}
+use Rattle.wire.specs.Lists.{total, joined, flattened, tab}
 use Rattle.wire.specs.Bits.{bits_below, count_below}
 use Rattle.wire.specs.First.{first, any_below}
 use Rattle.wire.specs.Stop.{◌⨾◌, stop_when, stop_if, stop_at, earlier, unrefused, over, output}
@@ -37,5 +37,5 @@ lookups = tt
 
 -- the report on two bundles
 unfoldable pub reports : Unit {0}
-unfolding bundles common overwrite joined met with_id left_against right_against differences_of decimal_of decimal line printed last_line difference_lines refused_line refused_by differences input_stop report reported
+unfolding bundles common overwrite joined flattened met with_id left_against right_against differences_of decimal_of decimal line printed last_line difference_lines refused_line refused_by differences input_stop report reported
 reports = tt

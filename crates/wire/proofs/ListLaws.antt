@@ -1,4 +1,4 @@
--- Laws of sums over lists, of what elements give joined, and of members. Assumes nothing.
+-- Laws of sums over lists, of bytes joined, of what elements give joined, and of members. Assumes nothing.
 use Prim.Native.Nat.{ℕ, zero, suc, ◌+◌, ◌*◌, ◌<◌, ◌≤◌, zero-le}
 use native.Mathlib.Omega.{arith}
 use native.Mathlib.Nat.{suc-mul}
@@ -7,7 +7,7 @@ use mathlib.Core.Logic.{inl, inr}
 use mathlib.Core.List.Memᴰ
 use mathlib.Core.List.{List, [], ◌∷◌, ◌++◌, append_assoc, Memᴰ}
 use lib.ListN.{length, get_or, length-append}
-use Rattle.wire.specs.Lists.{total, joined}
+use Rattle.wire.specs.Lists.{total, joined, flattened}
 
 pub total-append : {A : Type 0} (f : A → ℕ) (a b : List A) → total f (a ++ b) ≡ total f a + total f b
 unfolding total
@@ -30,14 +30,14 @@ unfolding total
 total_most v d m [] h = zero-le
 total_most v d m (x ∷ l) h = omega (arith, suc-mul (length l) m, h zero (omega arith), total_most v d m l (λ i b. h (suc i) (omega arith)))
 
--- ---- what elements give, joined
+-- ---- bytes joined
 
-pub joined-append : {A B : Type 0} (f : A → List B) (a b : List A) → joined f (a ++ b) ≡ joined f a ++ joined f b
+pub joined-append : {A : Type 0} (f : A → List ℕ) (a b : List A) → joined f (a ++ b) ≡ joined f a ++ joined f b
 unfolding joined
 joined-append f [] b = refl
 joined-append f (x ∷ a) b = ap (f x ++◌) (joined-append f a b) ∙ sym (append_assoc (f x) (joined f a) (joined f b))
 
-pub length-joined : {A B : Type 0} (f : A → List B) (l : List A) → length (joined f l) ≡ total (λ x. length (f x)) l
+pub length-joined : {A : Type 0} (f : A → List ℕ) (l : List A) → length (joined f l) ≡ total (λ x. length (f x)) l
 unfolding joined total
 length-joined f [] = refl
 length-joined f (x ∷ l) = omega (arith, length-append (f x) (joined f l), length-joined f l)
@@ -59,20 +59,20 @@ at_member (y ∷ l) d zero h = Memᴰ.head refl
 at_member (y ∷ l) d (suc i) h = Memᴰ.tail (at_member l d i (omega arith))
 
 -- of what elements give, joined
-pub joined_out : {A B : Type 0} (f : A → List B) (l : List A) (y : B) → Memᴰ y (joined f l) → (x : A) × Memᴰ x l × Memᴰ y (f x)
-unfolding joined
-joined_out f [] y m = absurd (Memᴰ.not-nil m)
-joined_out f (x ∷ l) y m =
+pub flattened_out : {A B : Type 0} (f : A → List B) (l : List A) (y : B) → Memᴰ y (flattened f l) → (x : A) × Memᴰ x l × Memᴰ y (f x)
+unfolding flattened
+flattened_out f [] y m = absurd (Memᴰ.not-nil m)
+flattened_out f (x ∷ l) y m =
     elim (Memᴰ.append_cases (f x) m) [
       | inl u ↦ (x, Memᴰ.head refl, u)
-      | inr u ↦ let r = joined_out f l y u in (r.0, Memᴰ.tail r.1, r.2)
+      | inr u ↦ let r = flattened_out f l y u in (r.0, Memᴰ.tail r.1, r.2)
     ]
 
-pub joined_in : {A B : Type 0} (f : A → List B) (l : List A) (x : A) (y : B) → Memᴰ x l → Memᴰ y (f x) → Memᴰ y (joined f l)
-unfolding joined
-joined_in f [] x y m u = absurd (Memᴰ.not-nil m)
-joined_in f (z ∷ l) x y m u =
+pub flattened_in : {A B : Type 0} (f : A → List B) (l : List A) (x : A) (y : B) → Memᴰ x l → Memᴰ y (f x) → Memᴰ y (flattened f l)
+unfolding flattened
+flattened_in f [] x y m u = absurd (Memᴰ.not-nil m)
+flattened_in f (z ∷ l) x y m u =
     elim (Memᴰ.cases_cons m) [
-      | inl e ↦ Memᴰ.append_left (joined f l) (rw e at u)
-      | inr v ↦ Memᴰ.append_right (f z) (joined_in f l x y v u)
+      | inl e ↦ Memᴰ.append_left (flattened f l) (rw e at u)
+      | inr v ↦ Memᴰ.append_right (f z) (flattened_in f l x y v u)
     ]

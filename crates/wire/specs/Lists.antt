@@ -1,4 +1,4 @@
--- Tests on lists, sums over them, what their elements give joined, and lists without repeats. Definitions only.
+-- Tests on lists, sums over them, their bytes joined, what their elements give joined, and lists without repeats. Definitions only.
 use Rattle.std.specs.Prelude.{ℕ, ◌+◌, zero, suc, Bool, true, false, ◌&&◌, ◌||◌, cond, List, [], ◌∷◌, ◌++◌, eqb}
 
 -- every element passes the test
@@ -23,10 +23,15 @@ unfoldable pub total : {A : Type 0} → (A → ℕ) → List A → ℕ
 total f [] = 0
 total f (x ∷ l) = f x + total f l
 
--- what each element gives, its bytes for one, one after another
-unfoldable pub joined : {A B : Type 0} → (A → List B) → List A → List B
+-- the bytes of each element, one after another
+unfoldable pub joined : {A : Type 0} → (A → List ℕ) → List A → List ℕ
 joined f [] = []
 joined f (x ∷ l) = f x ++ joined f l
+
+-- what each element gives, one after another
+unfoldable pub flattened : {A B : Type 0} → (A → List B) → List A → List B
+flattened f [] = []
+flattened f (x ∷ l) = f x ++ flattened f l
 
 -- f 0, .., f (n - 1)
 unfoldable pub tab {ℓ} : {A : Type ℓ} → ℕ → (ℕ → A) → List A

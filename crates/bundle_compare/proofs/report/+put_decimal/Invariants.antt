@@ -1,0 +1,4 @@
+use Rattle.bundle_compare.proofs.report.+put_decimal.Given as goal
+
+abbrev pub decreases-put_decimal : goal.decreases-put_decimal
+decreases-put_decimal l = l.v

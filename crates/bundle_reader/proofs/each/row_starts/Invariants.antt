@@ -1,0 +1,16 @@
+use borrow.Author.Rules.{rules}
+use native.Mathlib.Omega.{arith}
+use Prim.Native.Nat.{◌-◌, ◌≤◌}
+use mathlib.Core.Path.{◌≡◌, refl, ap, ◌∙◌}
+use Rattle.bundle.specs.Table.{row_start}
+use Rattle.bundle_reader.specs.Examined.{filled}
+use Rattle.bundle_reader.specs.Slots.{starts_in}
+use Rattle.bundle_reader.proofs.RowLaws.{next_start, row_here}
+use Rattle.bundle_reader.proofs.EachLaws.{starts_more}
+use Rattle.bundle_reader.proofs.each.row_starts.Given as goal
+
+abbrev pub invariant-loop-i : goal.invariant-loop-i
+invariant-loop-i l = (l.i ≤ l.n) × (l.at ≡ row_start l.s l.i) × (l.starts ≡ starts_in l.s l.i)
+
+abbrev pub decreases-loop-i : goal.decreases-loop-i
+decreases-loop-i l = l.n - l.i

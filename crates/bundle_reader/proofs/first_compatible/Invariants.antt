@@ -1,0 +1,16 @@
+use borrow.Author.Rules.{rules}
+use mathlib.Core.Path.{◌≡◌, sym, ◌∙◌}
+use native.Mathlib.Omega.{arith}
+use Prim.Native.Nat.{ℕ, ◌-◌, ◌≤◌, ◌<◌}
+use borrow.Author.Count.{below_more, below_none}
+use mathlib.Core.Bool.{false}
+use Rattle.wire.proofs.FirstLaws.{first_is, first-none}
+use Rattle.entry_id.specs.Rules.{id_rules}
+use Rattle.bundle_reader.specs.Examined.{text}
+use Rattle.bundle_reader.proofs.first_compatible.Given as goal
+
+abbrev pub invariant-loop-k : goal.invariant-loop-k
+invariant-loop-k l = (l.k ≤ l.n) × ((j : ℕ) → j < l.k → id_rules.compatible (text l.texts l.lens j) l.name ≡ false)
+
+abbrev pub decreases-loop-k : goal.decreases-loop-k
+decreases-loop-k l = l.n - l.k

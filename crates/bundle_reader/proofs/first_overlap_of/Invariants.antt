@@ -1,0 +1,17 @@
+use borrow.Author.Rules.{rules}
+use native.Mathlib.Omega.{arith}
+use Prim.Native.Nat.{ℕ, ◌-◌, ◌≤◌, ◌<◌}
+use mathlib.Core.Path.{◌≡◌, sym, ◌∙◌}
+use mathlib.Core.Bool.{false}
+use borrow.Author.Count.{below_more, below_none}
+use Rattle.wire.specs.Stop.{earlier}
+use Rattle.wire.proofs.FirstLaws.{first_is, first-none}
+use Rattle.bundle.specs.Check.{overlaps}
+use Rattle.bundle_reader.specs.Slots.{spans}
+use Rattle.bundle_reader.proofs.first_overlap_of.Given as goal
+
+abbrev pub invariant-loop-i : goal.invariant-loop-i
+invariant-loop-i l = (l.i ≤ l.n) × ((k : ℕ) → k < l.i → earlier overlaps (spans l.starts l.sizes) k ≡ false)
+
+abbrev pub decreases-loop-i : goal.decreases-loop-i
+decreases-loop-i l = l.n - l.i

@@ -1,0 +1,16 @@
+use borrow.Author.Rules.{rules}
+use native.Mathlib.Omega.{arith}
+use Prim.Native.Nat.{ℕ, ◌-◌, ◌≤◌, ◌<◌}
+use mathlib.Core.Path.{◌≡◌, sym, ◌∙◌}
+use mathlib.Core.Bool.{false}
+use borrow.Author.Count.{below_more, below_none}
+use Rattle.wire.proofs.StopLaws.{earlier-none, earlier_some}
+use Rattle.bundle.specs.Check.{overlaps}
+use Rattle.bundle_reader.specs.Slots.{spans}
+use Rattle.bundle_reader.proofs.overlaps_before.Given as goal
+
+abbrev pub invariant-loop-earlier : goal.invariant-loop-earlier
+invariant-loop-earlier l = (l.earlier ≤ l.i) × ((j : ℕ) → j < l.earlier → overlaps (spans l.starts l.sizes j) (spans l.starts l.sizes l.i) ≡ false)
+
+abbrev pub decreases-loop-earlier : goal.decreases-loop-earlier
+decreases-loop-earlier l = l.i - l.earlier

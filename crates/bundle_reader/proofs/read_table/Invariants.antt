@@ -1,0 +1,15 @@
+use borrow.Author.Rules.{rules}
+use native.Mathlib.Omega.{arith}
+use Prim.Native.Nat.{◌-◌, ◌≤◌}
+use mathlib.Core.Path.{◌≡◌, refl, sym, ap, subst, ◌∙◌}
+use Rattle.bundle.specs.Table.{row_start}
+use Rattle.bundle.specs.Accepted.{RowFits}
+use Rattle.bundle_reader.specs.Examined.{filled, rows_in}
+use Rattle.bundle_reader.proofs.RowLaws.{row_inside, row_next, rows_more}
+use Rattle.bundle_reader.proofs.read_table.Given as goal
+
+abbrev pub invariant-loop-i : goal.invariant-loop-i
+invariant-loop-i l = (l.i ≤ l.n) × (l.at ≡ row_start l.s l.i) × (l.rows ≡ rows_in l.s l.i)
+
+abbrev pub decreases-loop-i : goal.decreases-loop-i
+decreases-loop-i l = l.n - l.i

@@ -1,0 +1,19 @@
+use borrow.Author.Tests.{not-true, not-false}
+use native.Mathlib.Omega.{arith}
+use Prim.Native.Nat.{◌+◌, ◌-◌}
+use mathlib.Core.Path.{◌≡◌, refl, sym, ap, ◌∙◌}
+use mathlib.Core.Bool.{◌&&◌}
+use lib.ListN.{length}
+use Rattle.wire.specs.Lists.{every}
+use Rattle.entry_id.specs.Meaning.{feature}
+use Rattle.entry_id.specs.Scan.{part, pieces_at}
+use Rattle.entry_id.specs.Profile.{supported}
+use Rattle.profile_form.proofs.SeekLaws.{every-next, every_end}
+use Rattle.profile_form.proofs.parts.all_supported.Given as goal
+
+-- `profile_form::all_supported` meets its contract. The loop's invariant: the pieces that are left decide. Assumes nothing.
+abbrev pub invariant-loop-at : goal.invariant-loop-at
+invariant-loop-at l = every (λ p. supported l.sramecc l.xnack (feature p)) (pieces_at l.x l.stop) ≡ every (λ p. supported l.sramecc l.xnack (feature p)) (pieces_at l.x l.at)
+
+abbrev pub decreases-loop-at : goal.decreases-loop-at
+decreases-loop-at l = length l.x - l.at
