@@ -100,11 +100,12 @@ stack: target/stack
 compare: tools $(LIBRARY) $(HARNESS)
 	$(CARGO) run --release $(SECOND) --bin compare
 
-##   make selftest      the library as `rt try` runs it, compiled with checks; `rt ci` runs it as two compilers build it
+##   make selftest      the library compiled with checks, and on an interpreter what reads nothing; `make test` runs it as two compilers build it too
 selftest:
 	@scripts/need.sh rt
 	cmp crates/selftest/stdin samples/bundles/five-fields.bundle
 	tests/selftest.sh selftest 1
+	tests/selftest.sh selftest_cases 2
 
 ##   make second-test   the second program's own tests
 second-test: tools
