@@ -8,7 +8,7 @@ use borrow.Author.Tests.{lt-ltb, le-ltb}
 use Rattle.wire.specs.Bytes.{bytes, same, before, common}
 use Rattle.wire.specs.Lists.{total, joined}
 use Rattle.wire.specs.Order.{sort_by}
-use Rattle.wire.specs.Stop.{stop, ◌⨾◌, stop_when, stop_if}
+use Rattle.wire.specs.Stop.{stop, stop_when, stop_if}
 use Rattle.wire.proofs.Bools.{by_bool, by_lt}
 use Rattle.wire.proofs.ByteLaws.{common-within}
 use Rattle.wire.proofs.ListLaws.{joined-append}

@@ -5,7 +5,7 @@ use mathlib.Core.List.{List}
 use lib.ListN.{length, get_or}
 use borrow.Author.Tests.{ltb-false}
 use Rattle.wire.specs.Limit.{limit}
-use Rattle.wire.specs.Stop.{go, ◌⨾◌, unrefused, output}
+use Rattle.wire.specs.Stop.{go, unrefused, output}
 use Rattle.wire.proofs.StopLaws.{⨾-next, ⨾-left, ⨾-right, stop_if_no}
 use Rattle.entry_id.specs.IdRules.{IdRules, Lawful}
 use Rattle.bundle.specs.Accepted.{Sound}

@@ -1,5 +1,5 @@
 -- Cutting a text at its runs of field bytes. Assumes nothing.
-use Rattle.std.proofs.Common.{◌≡◌, ℕ, suc, ◌+◌, ◌<◌, ◌≤◌, Bool, true, false, ◌&&◌, T, eqb, ltb, ◌≢◌, List, [], ◌∷◌, ◌++◌, length, get_or, drop, sym, refl, ap, ◌∙◌, subst, inl, inr, append-nil, eqb→eq, drop_of_length-le, drop-cons, le-ltb, lt-ltb, ne_eqb, eqb-true}
+use Rattle.std.proofs.Common.{◌≡◌, ℕ, suc, ◌<◌, ◌≤◌, Bool, true, false, ◌&&◌, T, eqb, ltb, ◌≢◌, List, [], ◌∷◌, ◌++◌, length, get_or, drop, sym, refl, ap, ◌∙◌, subst, inl, inr, append-nil, eqb→eq, drop_of_length-le, drop-cons, le-ltb, lt-ltb, ne_eqb, eqb-true}
 use borrow.Author.Tests.{eqb-false}
 use Rattle.wire.specs.Lists.{every}
 use Rattle.entry_id.specs.Text.{split_on, on_first}

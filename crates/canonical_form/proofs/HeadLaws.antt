@@ -1,5 +1,5 @@
 -- What the scan of the head finds, against `fields_of` and `valid`. Assumes nothing.
-use Rattle.std.proofs.Common.{◌≡◌, ℕ, suc, ◌+◌, ◌<◌, ◌≤◌, Bool, true, false, cond, not, T, leb, ◌≢◌, List, [], ◌∷◌, ◌++◌, length, get_or, take, drop, refl, ap, ◌∙◌, subst, append_assoc, arith, leb→le, get_or-drop}
+use Rattle.std.proofs.Common.{◌≡◌, ℕ, suc, ◌<◌, ◌≤◌, Bool, true, false, cond, not, T, leb, ◌≢◌, List, [], ◌∷◌, ◌++◌, length, get_or, take, drop, refl, ap, ◌∙◌, subst, append_assoc, arith, leb→le, get_or-drop}
 use Rattle.wire.specs.Lists.{any, every}
 use Rattle.wire.specs.Bytes.{same, empty}
 use Rattle.wire.proofs.Bools.{by_bool, and_l, and_r, and_t, is_false, of_true}

@@ -5,7 +5,7 @@ use Rattle.wire.specs.Lists.{every}
 use Rattle.entry_id.specs.Text.{split_on}
 use Rattle.wire.proofs.Bools.{and_l, and_r, and_t, is_true, is_false, of_true}
 use Rattle.entry_id.proofs.TextLaws.{every_append, split_some}
-use Rattle.entry_id.specs.Meaning.{piece, name_byte}
+use Rattle.entry_id.specs.Meaning.{name_byte}
 use Rattle.entry_id.specs.Scan.{part, ends_at, pieces_at}
 use Rattle.canonical_form.specs.Spans.{piece_ok, Piece, good, piece_at, at_of, sign_of}
 use Rattle.entry_id.specs.Canonical.{sign_byte}

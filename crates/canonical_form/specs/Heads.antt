@@ -1,5 +1,5 @@
 -- What the scans of an ID find of its head, in terms of its positions: for private functions. Definitions only. Assumes nothing.
-use Rattle.std.specs.Prelude.{◌≡◌, ℕ, zero, suc, ◌+◌, ◌<◌, ◌≤◌, Bool, true, false, not, ◌&&◌, T, List, [], ◌∷◌, ◌++◌, length, take, drop, replicate, slice_index_or}
+use Rattle.std.specs.Prelude.{◌≡◌, ℕ, zero, suc, ◌<◌, ◌≤◌, Bool, true, false, not, ◌&&◌, T, List, [], ◌∷◌, ◌++◌, length, take, drop, replicate, slice_index_or}
 use Rattle.wire.specs.Lists.{any, every}
 use Rattle.entry_id.specs.Text.{join_with, not_colon}
 use Rattle.entry_id.specs.Scan.{part, Run, ends_at, pieces_at}

@@ -1,7 +1,7 @@
 -- A reader that was opened and asked n times. Assumes nothing.
 use Prim.Native.Nat.{ℕ, zero, suc}
-use mathlib.Core.Path.{◌≡◌, ap, ◌∙◌}
-use Rattle.offload_binary.specs.Reader.{opened, next, cursor_after, answer}
+use mathlib.Core.Path.{◌≡◌, ap}
+use Rattle.offload_binary.specs.Reader.{opened, cursor_after, answer}
 use Rattle.offload_binaries.specs.Held.{answered, moved}
 use Rattle.offload_binaries.specs.Asked.{asked, EveryReader}
 use Rattle.offload_binaries.specs.declared.Reader.{Reader}

@@ -10,7 +10,6 @@ use lib.Dec.{ltb, eqb}
 use borrow.Author.Tests.{le-ltb}
 use Rattle.wire.specs.Word.{word}
 use Rattle.wire.specs.Bytes.{same}
-use Rattle.wire.specs.Stop.{◌⨾◌}
 use Rattle.wire.proofs.Bools.{or_neither, neither_or}
 use Rattle.wire.proofs.WordLaws.{word-agree}
 use Rattle.wire.proofs.StopLaws.{⨾-left, ⨾-right, ⨾-next, stop_if-go, stop_if_no}

@@ -13,7 +13,7 @@ use Rattle.wire.proofs.TabLaws.{length_tab, tab_same, map_tab}
 use Rattle.wire.specs.Lists.{tab}
 use Rattle.wire.specs.Word.{word}
 use Rattle.wire.specs.Bytes.{same, empty}
-use Rattle.wire.specs.Stop.{go, ◌⨾◌, earlier}
+use Rattle.wire.specs.Stop.{go, earlier}
 use Rattle.wire.proofs.Bools.{clash, neither_or, yes_not}
 use Rattle.wire.proofs.ByteLaws.{eq_same}
 use Rattle.wire.proofs.FirstLaws.{any_none}

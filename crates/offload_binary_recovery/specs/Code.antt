@@ -1,5 +1,5 @@
 -- What the private functions promise each other. No public promise rests on this file.
-use Rattle.std.specs.Prelude.{ℕ, ◌+◌, ◌-◌, ◌<◌, ◌≤◌, ◌≡◌, true, false, List, ◌++◌, map, length, drop, replicate}
+use Rattle.std.specs.Prelude.{ℕ, ◌-◌, ◌<◌, ◌≤◌, ◌≡◌, true, false, List, ◌++◌, map, length, drop, replicate}
 use Rattle.wire.specs.Rows.{Added}
 use Rattle.offload_binary.specs.Binary.{no_part}
 use Rattle.offload_binary.specs.Reader.{end_to_end}

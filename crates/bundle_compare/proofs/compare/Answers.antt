@@ -1,4 +1,3 @@
-use borrow.Author.Rules.{rules}
 use native.Mathlib.Omega.{arith}
 use mathlib.Core.Path.{sym}
 use lib.ListN.{take}
@@ -53,6 +52,6 @@ write_differences-requires c =
 pub returns : goal.returns
 returns c =
     let r = reported_as _ _ _ _ _ _
-        (found-report _ _ _ _ _ _ _ _ _ _ c.read-l.ensures c.read-r.ensures (none_above _ c.if-left_number-gt0.false) (none_above _ c.if-right_number-gt0.false) (take c.find_differences-count.result c.find_differences-count.new.found) c.find_differences-count.ensures.3)
-        c.write_differences.ensures in
+    (found-report _ _ _ _ _ _ _ _ _ _ c.read-l.ensures c.read-r.ensures (none_above _ c.if-left_number-gt0.false) (none_above _ c.if-right_number-gt0.false) (take c.find_differences-count.result c.find_differences-count.new.found) c.find_differences-count.ensures.3)
+    c.write_differences.ensures in
     record { value = r.0; out_after = r.1 }

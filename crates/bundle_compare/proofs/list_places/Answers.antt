@@ -1,9 +1,7 @@
-use Prim.Native.Nat.{ℕ, ◌-◌, ◌<◌, ◌≤◌}
+use Prim.Native.Nat.{◌<◌}
 use native.Mathlib.Omega.{arith}
-use mathlib.Core.Path.{◌≡◌, refl, sym, ◌∙◌}
-use mathlib.Core.List.{[]}
-use lib.ListN.{length, get_or, length-set}
-use Rattle.bundle_compare.specs.Code.{place_of}
+use mathlib.Core.Path.{refl, sym, ◌∙◌}
+use lib.ListN.{length, length-set}
 use Rattle.bundle_compare.proofs.PlaceLaws.{places-next}
 use Rattle.bundle_compare.proofs.list_places.Goals as goal
 

@@ -1,10 +1,8 @@
 use Prim.Native.Nat.{ℕ, ◌-◌, ◌<◌, ◌≤◌}
-use native.Mathlib.Omega.{arith}
-use mathlib.Core.Path.{◌≡◌, refl, sym, ◌∙◌}
+use mathlib.Core.Path.{◌≡◌}
 use mathlib.Core.List.{[]}
-use lib.ListN.{length, get_or, length-set}
+use lib.ListN.{length, get_or}
 use Rattle.bundle_compare.specs.Code.{place_of}
-use Rattle.bundle_compare.proofs.PlaceLaws.{places-next}
 use Rattle.bundle_compare.proofs.list_places.Given as goal
 
 abbrev pub invariant-loop-k : goal.invariant-loop-k

@@ -1,5 +1,4 @@
 use mathlib.Core.Path.{ap}
-use borrow.Author.Rules.{rules}
 use Rattle.bundle_lookup.specs.Answer.{answer_of}
 use Rattle.bundle_lookup.proofs.answer_of.Goals as goal
 

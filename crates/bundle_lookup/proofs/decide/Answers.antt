@@ -1,6 +1,5 @@
 use mathlib.Core.Path.{sym, ap₂, ◌∙◌}
 use mathlib.Core.Bool.{◌||◌}
-use borrow.Author.Rules.{rules}
 use Rattle.bundle_lookup.proofs.AnswerLaws.{decided-first, decided_main, decided-patch}
 use Rattle.bundle_lookup.proofs.decide.Goals as goal
 

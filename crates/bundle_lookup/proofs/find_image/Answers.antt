@@ -1,5 +1,4 @@
 use mathlib.Core.Path.{ap, ◌∙◌}
-use borrow.Author.Rules.{rules}
 use Rattle.entry_id.specs.Rules.{id_rules}
 use Rattle.entry_id.proofs.RuleLaws.{id_rules_lawful}
 use Rattle.bundle.specs.declared.PickedInTurn.{PickedInTurn}

@@ -1,6 +1,5 @@
 use mathlib.Core.Path.{sym, ap, ◌∙◌}
 use lib.ListN.{take, drop}
-use borrow.Author.Rules.{rules}
 use Rattle.entry_id.specs.Rules.{id_rules}
 use Rattle.entry_id.proofs.RuleLaws.{id_rules_lawful}
 use Rattle.bundle.specs.Lookup.{numbers_of, bundle_of}

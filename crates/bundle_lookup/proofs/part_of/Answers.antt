@@ -1,7 +1,6 @@
 use mathlib.Core.Path.{sym, ap, ◌∙◌}
 use lib.ListN.{take, drop}
 use lib.Seq.{take-nil, drop-nil}
-use borrow.Author.Rules.{rules}
 use Rattle.bundle_lookup.proofs.AnswerLaws.{bundle-first, bundle_second, bundle-none}
 use Rattle.bundle_lookup.proofs.part_of.Goals as goal
 

@@ -1,13 +1,10 @@
-use borrow.Author.Rules.{rules}
 use native.Mathlib.Omega.{arith}
-use Prim.Native.Nat.{◌-◌, ◌≤◌}
-use mathlib.Core.Path.{◌≡◌, refl, ◌∙◌}
+use mathlib.Core.Path.{refl, ◌∙◌}
 use lib.ListN.{length}
 use Rattle.entry_id.specs.Rules.{id_rules, rules_of}
 use Rattle.entry_id.proofs.RuleLaws.{rules_lawful}
 use Rattle.bundle.specs.Table.{row_start, row}
 use Rattle.bundle.specs.Records.{row_of}
-use Rattle.bundle_reader.specs.Slots.{Staged}
 use Rattle.bundle_reader.proofs.RowLaws.{row_here, row_inside, row_next, row_is}
 use Rattle.bundle_reader.proofs.SlotLaws.{formed_lengths}
 use Rattle.bundle_reader.proofs.IdLaws.{general_texts}

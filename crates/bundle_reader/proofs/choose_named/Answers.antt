@@ -1,4 +1,3 @@
-use borrow.Author.Rules.{rules}
 use mathlib.Core.Path.{◌∙◌}
 use Rattle.wire.proofs.ByteLaws.{length_some}
 use Rattle.bundle_reader.proofs.ChoiceLaws.{choice-query, choice-none, choice-found}

@@ -1,18 +1,11 @@
-use borrow.Author.Rules.{rules}
-use native.Mathlib.Omega.{arith}
 use Prim.Native.Nat.{ℕ, ◌-◌, ◌≤◌, ◌<◌}
-use mathlib.Core.Path.{◌≡◌, refl, sym, ap, ◌∙◌}
+use mathlib.Core.Path.{◌≡◌}
 use mathlib.Core.Bool.{true, false}
-use borrow.Author.Count.{below_more, below_none}
 use Rattle.wire.specs.First.{first}
-use Rattle.wire.specs.Stop.{stop, earlier}
-use Rattle.wire.proofs.FirstLaws.{first_is, first-none}
+use Rattle.wire.specs.Stop.{earlier}
 use Rattle.entry_id.specs.Rules.{id_rules}
-use Rattle.bundle_reader.specs.declared.Refusal.{Refusal}
 use Rattle.bundle_reader.specs.Examined.{text}
 use Rattle.bundle_reader.specs.Slots.{near, relation}
-use Rattle.bundle_reader.proofs.SlotLaws.{first_more_lem}
-use Rattle.bundle_reader.proofs.StageLaws.{at_7, at_8, at_0}
 use Rattle.bundle_reader.proofs.compare.Given as goal
 
 abbrev pub invariant-loop-i : goal.invariant-loop-i

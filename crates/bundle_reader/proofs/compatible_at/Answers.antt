@@ -1,7 +1,6 @@
 use mathlib.Core.Path.{refl, sym, ◌∙◌}
 use native.Mathlib.Omega.{arith}
 use Rattle.bundle_reader.proofs.IdLaws.{compatible_is, incompatible}
-use borrow.Author.Rules.{rules}
 use Rattle.bundle_reader.proofs.compatible_at.Goals as goal
 
 pub offset_bounds-keys-k : goal.offset_bounds-keys-k

@@ -1,12 +1,7 @@
-use borrow.Author.Rules.{rules}
 use mathlib.Core.Path.{◌≡◌, sym, ◌∙◌}
 use native.Mathlib.Omega.{arith}
-use Prim.Native.Nat.{ℕ, ◌-◌, ◌≤◌, ◌<◌}
 use borrow.Author.Count.{below_more, below_none}
-use mathlib.Core.Bool.{false}
 use Rattle.wire.proofs.FirstLaws.{first_is, first-none}
-use Rattle.entry_id.specs.Rules.{id_rules}
-use Rattle.bundle_reader.specs.Examined.{text}
 use Rattle.bundle_reader.proofs.first_compatible.Goals as goal
 
 pub loop-k-init : goal.loop-k-init

@@ -1,10 +1,6 @@
-use borrow.Author.Rules.{rules}
-use mathlib.Core.Path.{◌≡◌, sym, ◌∙◌}
-use native.Mathlib.Omega.{arith}
+use mathlib.Core.Path.{◌≡◌}
 use Prim.Native.Nat.{ℕ, ◌-◌, ◌≤◌, ◌<◌}
-use borrow.Author.Count.{below_more, below_none}
 use mathlib.Core.Bool.{false}
-use Rattle.wire.proofs.FirstLaws.{first_is, first-none}
 use Rattle.entry_id.specs.Rules.{id_rules}
 use Rattle.bundle_reader.specs.Examined.{text}
 use Rattle.bundle_reader.proofs.first_compatible.Given as goal

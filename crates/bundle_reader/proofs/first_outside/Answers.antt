@@ -1,4 +1,3 @@
-use borrow.Author.Rules.{rules}
 use mathlib.Core.Path.{ap, ◌∙◌}
 use Rattle.bundle_reader.specs.Slots.{first_more}
 use Rattle.bundle_reader.proofs.first_outside.Goals as goal

@@ -1,13 +1,7 @@
-use borrow.Author.Rules.{rules}
 use native.Mathlib.Omega.{arith}
-use Prim.Native.Nat.{ℕ, ◌-◌, ◌≤◌, ◌<◌}
 use mathlib.Core.Path.{◌≡◌, sym, ◌∙◌}
-use mathlib.Core.Bool.{false}
 use borrow.Author.Count.{below_more, below_none}
-use Rattle.wire.specs.Stop.{earlier}
 use Rattle.wire.proofs.FirstLaws.{first_is, first-none}
-use Rattle.bundle.specs.Check.{overlaps}
-use Rattle.bundle_reader.specs.Slots.{spans}
 use Rattle.bundle_reader.proofs.first_overlap_of.Goals as goal
 
 pub loop-i-init : goal.loop-i-init

@@ -1,15 +1,8 @@
-use borrow.Author.Rules.{rules}
-use native.Mathlib.Omega.{arith}
 use Prim.Native.Nat.{ℕ, ◌-◌, ◌≤◌, ◌<◌}
-use mathlib.Core.Path.{◌≡◌, refl, sym, ◌∙◌}
+use mathlib.Core.Path.{◌≡◌}
 use mathlib.Core.Bool.{false}
-use borrow.Author.Count.{below_more, below_none}
-use borrow.Author.Tests.{eq-eqb, ne_eqb}
 use lib.Dec.{eqb}
 use lib.ListN.{get_or}
-use Rattle.wire.proofs.FirstLaws.{first_is, first-none}
-use Rattle.bundle_reader.specs.Slots.{near}
-use Rattle.bundle_reader.proofs.IdLaws.{near_same}
 use Rattle.bundle_reader.proofs.near_next.Given as goal
 
 abbrev pub invariant-loop-j : goal.invariant-loop-j

@@ -1,4 +1,3 @@
-use borrow.Author.Rules.{rules}
 use mathlib.Core.Path.{refl}
 use Rattle.bundle.specs.Check.{share_byte, same_span, overlaps}
 use Rattle.bundle_reader.proofs.overlap.Goals as goal

@@ -1,10 +1,6 @@
-use borrow.Author.Rules.{rules}
-use native.Mathlib.Omega.{arith}
 use Prim.Native.Nat.{ℕ, ◌-◌, ◌≤◌, ◌<◌}
-use mathlib.Core.Path.{◌≡◌, sym, ◌∙◌}
+use mathlib.Core.Path.{◌≡◌}
 use mathlib.Core.Bool.{false}
-use borrow.Author.Count.{below_more, below_none}
-use Rattle.wire.proofs.StopLaws.{earlier-none, earlier_some}
 use Rattle.bundle.specs.Check.{overlaps}
 use Rattle.bundle_reader.specs.Slots.{spans}
 use Rattle.bundle_reader.proofs.overlaps_before.Given as goal

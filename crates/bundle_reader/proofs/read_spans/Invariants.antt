@@ -1,13 +1,7 @@
-use borrow.Author.Rules.{rules}
-use native.Mathlib.Omega.{arith}
 use Prim.Native.Nat.{◌-◌, ◌≤◌}
-use mathlib.Core.Path.{◌≡◌, refl, ap, ◌∙◌}
-use lib.ListN.{length}
+use mathlib.Core.Path.{◌≡◌}
 use Rattle.bundle.specs.Table.{row_start, row}
 use Rattle.bundle_reader.specs.Examined.{filled}
-use Rattle.bundle_reader.proofs.RowLaws.{row_here, row_inside, row_next}
-use Rattle.bundle_reader.proofs.SlotLaws.{length-filled, filled_more}
-use Rattle.bundle_reader.proofs.OverlapLaws.{image_start_lem, image_len_lem}
 use Rattle.bundle_reader.proofs.read_spans.Given as goal
 
 abbrev pub invariant-loop-i : goal.invariant-loop-i

@@ -1,7 +1,5 @@
-use borrow.Author.Rules.{rules}
 use native.Mathlib.Omega.{arith}
-use Prim.Native.Nat.{◌-◌, ◌≤◌}
-use mathlib.Core.Path.{◌≡◌, refl, sym, ap, subst, ◌∙◌}
+use mathlib.Core.Path.{refl, sym, ap, subst, ◌∙◌}
 use Rattle.bundle.specs.Table.{row_start}
 use Rattle.bundle.specs.Accepted.{RowFits}
 use Rattle.bundle_reader.specs.Examined.{filled, rows_in}

@@ -1,11 +1,7 @@
-use borrow.Author.Rules.{rules}
-use native.Mathlib.Omega.{arith}
 use Prim.Native.Nat.{◌-◌, ◌≤◌}
-use mathlib.Core.Path.{◌≡◌, refl, sym, ap, subst, ◌∙◌}
+use mathlib.Core.Path.{◌≡◌}
 use Rattle.bundle.specs.Table.{row_start}
-use Rattle.bundle.specs.Accepted.{RowFits}
-use Rattle.bundle_reader.specs.Examined.{filled, rows_in}
-use Rattle.bundle_reader.proofs.RowLaws.{row_inside, row_next, rows_more}
+use Rattle.bundle_reader.specs.Examined.{rows_in}
 use Rattle.bundle_reader.proofs.read_table.Given as goal
 
 abbrev pub invariant-loop-i : goal.invariant-loop-i

@@ -1,5 +1,4 @@
 use Prim.Native.Nat.{◌+◌}
-use borrow.Author.Rules.{rules}
 use Rattle.bundle_reader.specs.Examined.{held_row}
 use Rattle.bundle_reader.proofs.row_at.Goals as goal
 

@@ -1,7 +1,5 @@
-use borrow.Author.Rules.{rules}
 use native.Mathlib.Omega.{arith}
-use Prim.Native.Nat.{◌-◌, ◌≤◌}
-use mathlib.Core.Path.{◌≡◌, refl, ap, ◌∙◌}
+use mathlib.Core.Path.{refl, ap, ◌∙◌}
 use Rattle.bundle.specs.Table.{row_start}
 use Rattle.bundle_reader.specs.Examined.{held_row}
 use Rattle.bundle_reader.proofs.RowLaws.{next_start, row_here}

@@ -1,14 +1,10 @@
-use borrow.Author.Rules.{rules}
 use native.Mathlib.Omega.{arith}
-use Prim.Native.Nat.{ℕ, ◌+◌, ◌-◌, ◌≤◌, ◌<◌}
-use mathlib.Core.Path.{◌≡◌, refl, ap₂}
+use Prim.Native.Nat.{◌+◌}
+use mathlib.Core.Path.{refl, ap₂}
 use mathlib.Core.Bool.{false}
 use borrow.Author.Count.{below_more, below_none}
-use Rattle.wire.specs.Stop.{earlier}
 use Rattle.wire.proofs.Bools.{clash}
-use Rattle.bundle.specs.Table.{row_start, row}
-use Rattle.bundle.specs.Check.{overlaps}
-use Rattle.bundle_reader.specs.Slots.{Within}
+use Rattle.bundle.specs.Table.{row_start}
 use Rattle.bundle_reader.proofs.RowLaws.{row_here, row_inside, row_next}
 use Rattle.bundle_reader.proofs.OverlapLaws.{image_start_lem, image_len_lem, image_end_lem, apart_beside, within_more}
 use Rattle.bundle_reader.proofs.side_by_side.Goals as goal

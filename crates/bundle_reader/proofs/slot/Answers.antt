@@ -4,7 +4,6 @@ use Prim.Native.Nat.{◌+◌, ◌*◌, ◌-◌}
 use lib.ListN.{length, get_or, take, drop, length-drop, drop_of_length-le, get_or-eq_default}
 use lib.Seq.{take_all, take-nil}
 use Rattle.bundle_reader.specs.Examined.{text}
-use borrow.Author.Rules.{rules}
 use Rattle.bundle_reader.proofs.slot.Goals as goal
 
 pub returns-then-lens-k : goal.returns-then-lens-k

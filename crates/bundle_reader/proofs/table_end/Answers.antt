@@ -1,10 +1,6 @@
-use borrow.Author.Rules.{rules}
 use native.Mathlib.Omega.{arith}
-use Prim.Native.Nat.{ℕ, ◌-◌, ◌≤◌, ◌<◌}
 use mathlib.Core.Path.{◌≡◌, refl, sym, ap, ◌∙◌}
-use mathlib.Core.Bool.{false}
 use borrow.Author.Count.{below_more, below_none}
-use lib.ListN.{length}
 use Rattle.wire.specs.Stop.{Stop}
 use Rattle.bundle.specs.Table.{row_start}
 use Rattle.bundle.specs.Check.{bad_row}

@@ -1,4 +1,4 @@
-use Rattle.std.proofs.Common.{◌+◌, ◌≤◌, length, sym, ap, ◌∙◌, subst, arith, length-take-le, rules}
+use Rattle.std.proofs.Common.{◌+◌, ◌≤◌, length, sym, ap, ◌∙◌, subst, arith, length-take-le}
 use borrow.Author.Tests.{not-true, not-false}
 use Rattle.entry_id.specs.Canonical.{canonical_in, kind_part, after_kind, key_of}
 use Rattle.wire.proofs.OverwriteLaws.{length-overwrite}

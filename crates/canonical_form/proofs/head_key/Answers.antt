@@ -1,4 +1,4 @@
-use Rattle.std.proofs.Common.{◌+◌, ◌%◌, ◌^◌, drop, sym, ap, ◌∙◌, ap₂, arith, rules}
+use Rattle.std.proofs.Common.{◌+◌, ◌%◌, ◌^◌, drop, sym, ap, ◌∙◌, ap₂, arith}
 use Rattle.entry_id.specs.Scan.{part}
 use Rattle.entry_id.specs.Canonical.{head_number, key_of, after_kind}
 use Rattle.entry_id.proofs.RunLaws.{part_rest}

@@ -1,4 +1,4 @@
-use Rattle.std.proofs.Common.{◌+◌, ◌%◌, ◌^◌, ◌∙◌, ap₂, rules}
+use Rattle.std.proofs.Common.{◌+◌, ◌%◌, ◌^◌, ◌∙◌, ap₂}
 use Rattle.entry_id.specs.Canonical.{head_number}
 use Rattle.canonical_form.proofs.head_number.Goals as goal
 

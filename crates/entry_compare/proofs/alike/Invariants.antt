@@ -1,18 +1,10 @@
-use borrow.Author.Rules.{rules}
-use native.Mathlib.Omega.{arith}
-use Prim.Native.Nat.{◌+◌, ◌-◌, ◌≤◌, ◌<◌}
-use mathlib.Core.Path.{◌≡◌, sym, ap₂, ◌∙◌}
-use mathlib.Core.Bool.{false, ◌&&◌}
+use Prim.Native.Nat.{◌-◌, ◌≤◌, ◌<◌}
+use mathlib.Core.Path.{◌≡◌}
+use mathlib.Core.Bool.{false}
 use lib.Dec.{eqb}
-use lib.ListN.{length, get_or, drop, length-drop}
-use borrow.Author.Tests.{not-true, not-false}
-use Rattle.wire.specs.Bytes.{common}
-use Rattle.wire.proofs.ByteLaws.{common-within}
+use lib.ListN.{length, get_or, drop}
 use Rattle.wire.specs.Lists.{agree}
 use Rattle.entry_id.specs.Canonical.{same_but_sign}
-use Rattle.entry_id.specs.Scan.{part}
-use Rattle.entry_id.proofs.RunLaws.{part_rest}
-use Rattle.entry_compare.proofs.TestLaws.{alike_lengths, alike_start, start_apart, alike_other, alike_next, next-apart, alike_end}
 use Rattle.entry_compare.proofs.alike.Given as goal
 
 abbrev pub invariant-loop-at : goal.invariant-loop-at

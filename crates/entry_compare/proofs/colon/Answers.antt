@@ -1,4 +1,3 @@
-use borrow.Author.Rules.{rules}
 use Rattle.entry_id.proofs.RunLaws.{first_run}
 use Rattle.entry_compare.proofs.colon.Goals as goal
 

@@ -1,4 +1,3 @@
-use borrow.Author.Rules.{rules}
 use mathlib.Core.Path.{sym, ◌∙◌}
 use Rattle.wire.specs.Bytes.{same}
 use Rattle.entry_id.specs.Compare.{compared_kind}

@@ -1,4 +1,3 @@
-use borrow.Author.Rules.{rules}
 use mathlib.Core.Path.{◌∙◌}
 use Rattle.entry_id.specs.Canonical.{compatible_spelled, compatible_text}
 use Rattle.entry_compare.proofs.KindLaws.{compatible_head, uncut}

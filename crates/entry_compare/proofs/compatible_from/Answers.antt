@@ -1,4 +1,3 @@
-use borrow.Author.Rules.{rules}
 use native.Mathlib.Omega.{arith}
 use mathlib.Core.Path.{sym, ◌∙◌}
 use Rattle.entry_compare.proofs.TestLaws.{compatible_self, compatible_no, compatible_yes, whole_same}

@@ -1,4 +1,3 @@
-use borrow.Author.Rules.{rules}
 use mathlib.Core.Path.{sym, ap, ap₂, ◌∙◌}
 use lib.Seq.{length-take-le}
 use Rattle.wire.specs.Bytes.{same}

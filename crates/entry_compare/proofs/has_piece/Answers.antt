@@ -1,14 +1,11 @@
-use Prim.Native.Nat.{suc, ◌+◌, ◌-◌}
+use Prim.Native.Nat.{suc, ◌+◌}
 use mathlib.Core.Path.{◌≡◌, refl, sym, ◌∙◌}
 use native.Mathlib.Numerals.{add-one}
-use lib.ListN.{length}
-use Rattle.wire.specs.Lists.{any}
 use Rattle.wire.specs.Bytes.{same}
-use Rattle.entry_id.specs.Scan.{part, pieces_at, Run}
+use Rattle.entry_id.specs.Scan.{part, Run}
 use Rattle.entry_id.specs.Text.{not_colon}
 use Rattle.entry_compare.proofs.TestLaws.{any_yes, any_no, any_end}
 use native.Mathlib.Omega.{arith}
-use borrow.Author.Rules.{rules}
 use Rattle.entry_compare.proofs.has_piece.Goals as goal
 
 pub loop-at-init : goal.loop-at-init

@@ -1,14 +1,9 @@
-use Prim.Native.Nat.{suc, ◌+◌, ◌-◌}
-use mathlib.Core.Path.{◌≡◌, refl, sym, ◌∙◌}
-use native.Mathlib.Numerals.{add-one}
+use Prim.Native.Nat.{◌-◌}
+use mathlib.Core.Path.{◌≡◌}
 use lib.ListN.{length}
 use Rattle.wire.specs.Lists.{any}
 use Rattle.wire.specs.Bytes.{same}
-use Rattle.entry_id.specs.Scan.{part, pieces_at, Run}
-use Rattle.entry_id.specs.Text.{not_colon}
-use Rattle.entry_compare.proofs.TestLaws.{any_yes, any_no, any_end}
-use native.Mathlib.Omega.{arith}
-use borrow.Author.Rules.{rules}
+use Rattle.entry_id.specs.Scan.{pieces_at}
 use Rattle.entry_compare.proofs.has_piece.Given as goal
 
 -- `entry_compare::has_piece` meets its contract. The loop's invariant: the pieces that are left decide. Assumes nothing.

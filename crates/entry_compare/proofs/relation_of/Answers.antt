@@ -1,4 +1,3 @@
-use borrow.Author.Rules.{rules}
 use mathlib.Core.Path.{ap₂, ◌∙◌}
 use Rattle.wire.specs.Bytes.{same}
 use Rattle.entry_id.specs.Canonical.{mixed_spelled, same_text, mixed_text}

@@ -1,5 +1,5 @@
 use Rattle.std.proofs.Common.{set, ap₂, ◌∙◌, arith}
-use Rattle.normal_form.proofs.Gathered.{sofar, sofar_none, sofar_next, sofar_all}
+use Rattle.normal_form.proofs.Gathered.{sofar_none, sofar_next, sofar_all}
 use Rattle.normal_form.proofs.gather.Goals as goal
 
 pub loop-i-init : goal.loop-i-init

@@ -1,11 +1,8 @@
-use native.Mathlib.Omega.{arith}
-use mathlib.Core.Path.{◌≡◌, ap, ◌∙◌}
+use mathlib.Core.Path.{◌≡◌}
 use Prim.Native.Nat.{◌≤◌, ◌-◌, ◌+◌}
 use Rattle.wire.specs.Lists.{total}
 use Rattle.wire.specs.Limit.{limit}
-use Rattle.bundle.specs.Records.{record_at}
-use Rattle.normal_form.specs.Code.{capped, up_to, row_length, entry_length}
-use Rattle.normal_form.proofs.SumLaws.{sum_none, sum_next, sum_room, capped-over, capped_in}
+use Rattle.normal_form.specs.Code.{up_to, row_length, entry_length}
 use Rattle.normal_form.proofs.measure.Given as goal
 
 abbrev pub invariant-loop-i : goal.invariant-loop-i

@@ -4,7 +4,6 @@ use lib.ListN.{length}
 use Rattle.entry_id.proofs.RuleLaws.{rules_lawful}
 use Rattle.bundle_reader.proofs.StageLaws.{examine_says}
 use Rattle.normal_form.proofs.NormaliseLaws.{refused-answer, refused-bytes, few, examined-placed, accepted-answer, accepted-bytes}
-use borrow.Author.Rules.{rules}
 use Rattle.normal_form.proofs.normalise_in.Goals as goal
 
 pub returns-then-number-gt0 : goal.returns-then-number-gt0

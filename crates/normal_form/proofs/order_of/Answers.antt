@@ -1,4 +1,3 @@
-use borrow.Author.Rules.{rules}
 use Rattle.normal_form.proofs.order_of.Goals as goal
 
 pub returns-then-rising : goal.returns-then-rising

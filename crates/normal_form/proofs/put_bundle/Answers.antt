@@ -9,7 +9,6 @@ use Rattle.bundle.specs.Table.{magic}
 use Rattle.bundle.specs.Layout.{table, images}
 use Rattle.normal_form.specs.Code.{in_order, row_after}
 use Rattle.normal_form.proofs.EncodeLaws.{end_order, length_order, put_all}
-use borrow.Author.Rules.{rules}
 use Rattle.normal_form.proofs.put_bundle.Goals as goal
 
 pub put_table-requires : goal.put_table-requires

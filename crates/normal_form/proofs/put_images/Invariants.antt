@@ -1,17 +1,11 @@
-use native.Mathlib.Omega.{arith}
-use mathlib.Core.Path.{◌≡◌, refl, ap, ◌∙◌}
+use mathlib.Core.Path.{◌≡◌}
 use mathlib.Core.List.{[]}
-use Prim.Native.Nat.{◌≤◌, ◌<◌, ◌-◌, ◌+◌}
-use lib.ListN.{length, get_or, take, drop}
-use borrow.Author.Rules.{rules}
+use Prim.Native.Nat.{◌≤◌, ◌-◌, ◌+◌}
+use lib.ListN.{length}
 use Rattle.wire.specs.Bytes.{overwrite}
 use Rattle.wire.specs.Lists.{total}
-use Rattle.bundle.specs.Entry.{image_of}
-use Rattle.bundle.specs.Records.{record_at, row_of}
 use Rattle.bundle.specs.Layout.{images}
-use Rattle.normal_form.specs.Code.{entry_at, in_order, up_to, size_of}
-use Rattle.normal_form.proofs.SumLaws.{sum_none}
-use Rattle.normal_form.proofs.WriteLaws.{Writes, put_none, put_room, put_next, at_next, images_writes}
+use Rattle.normal_form.specs.Code.{in_order, up_to, size_of}
 use Rattle.normal_form.proofs.put_images.Given as goal
 
 abbrev pub invariant-loop-i : goal.invariant-loop-i

@@ -5,7 +5,6 @@ use lib.ListN.{length}
 use Rattle.wire.specs.Bytes.{overwrite}
 use Rattle.wire.specs.Word.{bytes_of}
 use Rattle.normal_form.proofs.WriteLaws.{put_line}
-use borrow.Author.Rules.{rules}
 use Rattle.normal_form.proofs.put_row.Goals as goal
 
 pub returns : goal.returns

@@ -1,13 +1,12 @@
 use native.Mathlib.Omega.{arith}
 use mathlib.Core.Path.{◌≡◌, refl, ap, ap₂, ◌∙◌}
-use Prim.Native.Nat.{◌≤◌, ◌<◌, ◌-◌, ◌+◌}
+use Prim.Native.Nat.{◌≤◌, ◌<◌, ◌+◌}
 use lib.ListN.{length, get_or}
-use borrow.Author.Rules.{rules}
 use Rattle.wire.specs.Bytes.{overwrite}
-use Rattle.wire.specs.Lists.{total, tab}
+use Rattle.wire.specs.Lists.{tab}
 use Rattle.bundle.specs.Records.{record_at}
 use Rattle.bundle.specs.Layout.{row_bytes, table}
-use Rattle.normal_form.specs.Code.{up_to, size_of, id_of, row_after}
+use Rattle.normal_form.specs.Code.{size_of, id_of, row_after}
 use Rattle.normal_form.proofs.SumLaws.{sum_none, sum_next, sum_room}
 use Rattle.normal_form.proofs.WriteLaws.{Writes, put_none, put_room, put_next, at_next, table_writes}
 use Rattle.normal_form.proofs.put_table.Goals.{In-loop-i, Start}

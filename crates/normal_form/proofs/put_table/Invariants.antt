@@ -1,15 +1,10 @@
-use native.Mathlib.Omega.{arith}
-use mathlib.Core.Path.{◌≡◌, refl, ap, ap₂, ◌∙◌}
-use Prim.Native.Nat.{◌≤◌, ◌<◌, ◌-◌, ◌+◌}
-use lib.ListN.{length, get_or}
-use borrow.Author.Rules.{rules}
+use mathlib.Core.Path.{◌≡◌}
+use Prim.Native.Nat.{◌≤◌, ◌-◌, ◌+◌}
+use lib.ListN.{length}
 use Rattle.wire.specs.Bytes.{overwrite}
 use Rattle.wire.specs.Lists.{total, tab}
-use Rattle.bundle.specs.Records.{record_at}
-use Rattle.bundle.specs.Layout.{row_bytes, table}
+use Rattle.bundle.specs.Layout.{table}
 use Rattle.normal_form.specs.Code.{up_to, size_of, id_of, row_after}
-use Rattle.normal_form.proofs.SumLaws.{sum_none, sum_next, sum_room}
-use Rattle.normal_form.proofs.WriteLaws.{Writes, put_none, put_room, put_next, at_next, table_writes}
 use Rattle.normal_form.proofs.put_table.Given as goal
 
 abbrev pub invariant-loop-i : goal.invariant-loop-i

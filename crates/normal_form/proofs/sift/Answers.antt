@@ -1,11 +1,9 @@
 use native.Mathlib.Omega.{arith}
 use mathlib.Core.Path.{◌≡◌, refl, sym, ap, ap₂, ◌∙◌}
-use mathlib.Core.Bool.{false}
 use mathlib.Core.List.{◌∷◌}
-use Prim.Native.Nat.{ℕ, ◌≤◌, ◌<◌, ◌-◌, ◌+◌}
-use lib.ListN.{length, take, drop, get_or, length-set}
+use Prim.Native.Nat.{◌-◌, ◌+◌}
+use lib.ListN.{take, drop, get_or, length-set}
 use borrow.Author.Count.{below_more}
-use borrow.Author.Rules.{rules}
 use Rattle.wire.specs.Bytes.{before}
 use Rattle.bundle_reader.specs.Examined.{text}
 use Rattle.normal_form.proofs.OrderLaws.{mid, mid_zero, mid_stop, mid_end, part_length, part_front, turn_next, turn_swap}

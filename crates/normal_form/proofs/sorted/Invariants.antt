@@ -1,12 +1,9 @@
-use native.Mathlib.Omega.{arith}
-use mathlib.Core.Path.{◌≡◌, refl}
-use Prim.Native.Nat.{◌≤◌, ◌-◌, ◌+◌}
-use lib.ListN.{length, take, drop, length-set}
-use lib.Seq.{get_or-set_same}
+use mathlib.Core.Path.{◌≡◌}
+use Prim.Native.Nat.{◌≤◌}
+use lib.ListN.{length, take, drop}
 use Rattle.wire.specs.Order.{sort_by}
 use Rattle.bundle_reader.specs.Examined.{text}
 use Rattle.normal_form.specs.Code.{up_to}
-use Rattle.normal_form.proofs.OrderLaws.{sorted_none, sorted_next}
 use Rattle.normal_form.proofs.sorted.Given as goal
 
 abbrev pub invariant-loop-i : goal.invariant-loop-i

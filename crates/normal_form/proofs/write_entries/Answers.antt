@@ -3,7 +3,6 @@ use mathlib.Core.Path.{ap, ◌∙◌}
 use Rattle.bundle.specs.Layout.{packed_length, encode}
 use Rattle.normal_form.specs.Code.{in_order}
 use Rattle.normal_form.proofs.EncodeLaws.{measured_over, measured_in, measured_end, says_big, says_room, says_done}
-use borrow.Author.Rules.{rules}
 use Rattle.normal_form.proofs.write_entries.Goals as goal
 
 pub measure-m-requires : goal.measure-m-requires

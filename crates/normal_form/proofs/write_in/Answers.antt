@@ -5,7 +5,6 @@ use Rattle.entry_id.specs.Rules.{id_rules}
 use Rattle.entry_id.proofs.RuleLaws.{id_rules_lawful}
 use Rattle.bundle_reader.proofs.RecordLaws.{records_say}
 use Rattle.normal_form.proofs.WriterLaws.{few, refused-answer, refused-bytes, records_placed, accepted-answer, accepted-bytes}
-use borrow.Author.Rules.{rules}
 use Rattle.normal_form.proofs.write_in.Goals as goal
 
 pub returns-then-number-gt0 : goal.returns-then-number-gt0

@@ -1,7 +1,6 @@
 use native.Mathlib.Omega.{arith}
 use mathlib.Core.Path.{◌∙◌}
 use Rattle.offload_binaries.proofs.NextLaws.{call_length, call_end, call_many, call_refused, call_inside, call_good}
-use borrow.Author.Rules.{rules}
 use Rattle.offload_binaries.proofs.next_at.Goals as goal
 
 pub returns-then-s-gt1073741824 : goal.returns-then-s-gt1073741824

@@ -9,5 +9,5 @@ returns c =
     let a = c.args in
     let w = c.write_array.ensures in
     let e = ap₂ (λ ps n. write a.tags a.image.now (listed ps n) a.strings.now a.out.now) c.gather.ensures c.pair_count.ensures
-        ∙ write-gathered a.tags a.image.now a.pairs.now a.strings.now a.out.now in
+    ∙ write-gathered a.tags a.image.now a.pairs.now a.strings.now a.out.now in
     (w.0 ∙ ap (λ x. x.answer) e, w.1 ∙ ap (λ x. x.out) e)

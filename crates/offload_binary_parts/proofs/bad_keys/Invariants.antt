@@ -1,13 +1,9 @@
-use borrow.Author.Rules.{rules}
-use native.Mathlib.Omega.{arith}
 use Prim.Native.Nat.{ℕ, ◌-◌, ◌≤◌, ◌<◌}
-use mathlib.Core.Path.{◌≡◌, sym, ◌∙◌}
+use mathlib.Core.Path.{◌≡◌}
 use mathlib.Core.Bool.{false}
-use borrow.Author.Count.{below_more}
 use Rattle.wire.specs.Bytes.{same}
 use Rattle.wire.specs.Stop.{earlier}
 use Rattle.offload_binary.specs.Binary.{key_in}
-use Rattle.offload_binary_parts.proofs.TestLaws.{keys_many, keys_equal, keys_differ}
 use Rattle.offload_binary_parts.proofs.bad_keys.Given as goal
 
 abbrev pub invariant-loop-i : goal.invariant-loop-i

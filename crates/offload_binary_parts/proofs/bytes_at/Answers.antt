@@ -3,7 +3,6 @@ use mathlib.Core.Path.{sym, ap, ◌∙◌}
 use lib.ListN.{length, take, drop, length-drop}
 use lib.Seq.{length-take-le}
 use Rattle.offload_binary.proofs.BinaryLaws.{rest_is, part_none, part_rest, part_is}
-use borrow.Author.Rules.{rules}
 use Rattle.offload_binary_parts.proofs.bytes_at.Goals as goal
 
 pub returns-then-s-start : goal.returns-then-s-start

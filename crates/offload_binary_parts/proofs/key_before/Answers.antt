@@ -1,8 +1,5 @@
-use borrow.Author.Rules.{rules}
 use native.Mathlib.Omega.{arith}
-use Prim.Native.Nat.{ℕ, ◌-◌, ◌≤◌, ◌<◌}
-use mathlib.Core.Path.{◌≡◌, sym, ap₂, ◌∙◌}
-use mathlib.Core.Bool.{false}
+use mathlib.Core.Path.{sym, ap₂, ◌∙◌}
 use borrow.Author.Count.{below_more}
 use Rattle.wire.specs.Bytes.{same}
 use Rattle.wire.specs.Stop.{earlier}

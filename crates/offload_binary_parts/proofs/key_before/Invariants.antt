@@ -1,12 +1,7 @@
-use borrow.Author.Rules.{rules}
-use native.Mathlib.Omega.{arith}
 use Prim.Native.Nat.{ℕ, ◌-◌, ◌≤◌, ◌<◌}
-use mathlib.Core.Path.{◌≡◌, sym, ap₂, ◌∙◌}
+use mathlib.Core.Path.{◌≡◌}
 use mathlib.Core.Bool.{false}
-use borrow.Author.Count.{below_more}
 use Rattle.wire.specs.Bytes.{same}
-use Rattle.wire.specs.Stop.{earlier}
-use Rattle.wire.proofs.FirstLaws.{any_some, any_none}
 use Rattle.offload_binary.specs.Binary.{key_in}
 use Rattle.offload_binary_parts.proofs.key_before.Given as goal
 

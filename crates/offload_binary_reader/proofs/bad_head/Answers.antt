@@ -4,7 +4,6 @@ use lib.Dec.{eqb}
 use Rattle.wire.specs.Bytes.{same}
 use Rattle.offload_binary.specs.Binary.{bytes_at, magic}
 use Rattle.offload_binary_reader.proofs.HeadLaws.{head_short, head_magic, head_version}
-use borrow.Author.Rules.{rules}
 use Rattle.offload_binary_reader.proofs.bad_head.Goals as goal
 
 pub returns-then-b-lt32 : goal.returns-then-b-lt32

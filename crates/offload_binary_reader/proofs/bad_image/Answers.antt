@@ -1,6 +1,5 @@
 use mathlib.Core.Path.{◌∙◌}
 use Rattle.offload_binary_reader.proofs.HeadLaws.{image_low, image_end_lem}
-use borrow.Author.Rules.{rules}
 use Rattle.offload_binary_reader.proofs.bad_image.Goals as goal
 
 pub returns-then-start-lt32 : goal.returns-then-start-lt32

@@ -1,6 +1,5 @@
 use mathlib.Core.Path.{sym, ◌∙◌}
 use Rattle.offload_binary_reader.proofs.HeadLaws.{span_small, span_large, span-entry, span_low, span_end}
-use borrow.Author.Rules.{rules}
 use Rattle.offload_binary_reader.proofs.bad_span.Goals as goal
 
 pub returns-then-size-lt72 : goal.returns-then-size-lt72

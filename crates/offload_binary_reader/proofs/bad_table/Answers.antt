@@ -1,6 +1,5 @@
 use mathlib.Core.Path.{◌∙◌}
 use Rattle.offload_binary_reader.proofs.HeadLaws.{table-many, table_none, table_low, table_end_lem}
-use borrow.Author.Rules.{rules}
 use Rattle.offload_binary_reader.proofs.bad_table.Goals as goal
 
 pub returns-then-count-gt32 : goal.returns-then-count-gt32

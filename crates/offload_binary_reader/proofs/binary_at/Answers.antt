@@ -2,7 +2,6 @@ use mathlib.Core.Path.{sym, ap, ◌∙◌}
 use Rattle.wire.specs.Word.{word}
 use Rattle.offload_binary.specs.Binary.{bad_head, bad_span}
 use Rattle.offload_binary_reader.proofs.AtLaws.{left_is, at_head, at_span, inside, at_body}
-use borrow.Author.Rules.{rules}
 use Rattle.offload_binary_reader.proofs.binary_at.Goals as goal
 
 pub returns-then-bad_head : goal.returns-then-bad_head

@@ -1,6 +1,5 @@
 use mathlib.Core.Path.{ap}
 use Rattle.offload_binary.specs.Binary.{no_part}
-use borrow.Author.Rules.{rules}
 use Rattle.offload_binary_reader.proofs.no_binary.Goals as goal
 
 pub returns : goal.returns

@@ -4,7 +4,6 @@ use lib.ListN.{take, drop}
 use Rattle.offload_binary.specs.Binary.{bytes_at, entry_of}
 use Rattle.offload_binary_reader.proofs.HeadLaws.{image-fits}
 use Rattle.offload_binary_reader.proofs.BodyLaws.{length_o, body_kinds, body_strings, body_image, body_good}
-use borrow.Author.Rules.{rules}
 use Rattle.offload_binary_reader.proofs.read_body.Goals as goal
 
 pub returns-then-bad_kinds : goal.returns-then-bad_kinds

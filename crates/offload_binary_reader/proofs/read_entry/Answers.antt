@@ -1,5 +1,4 @@
 use Rattle.offload_binary.specs.Binary.{entry_of}
-use borrow.Author.Rules.{rules}
 use Rattle.offload_binary_reader.proofs.read_entry.Goals as goal
 
 pub returns : goal.returns

@@ -1,6 +1,5 @@
 use native.Mathlib.Omega.{arith}
 use Rattle.offload_binary_reader.proofs.PairLaws.{key-long, text-long, key-none, key_string, text_string, both_good}
-use borrow.Author.Rules.{rules}
 use Rattle.offload_binary_reader.proofs.read_pair.Goals as goal
 
 pub returns-then-key_len-gt256 : goal.returns-then-key_len-gt256

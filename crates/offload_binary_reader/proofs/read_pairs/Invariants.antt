@@ -1,15 +1,9 @@
-use borrow.Author.Rules.{rules}
-use native.Mathlib.Omega.{arith}
 use Prim.Native.Nat.{ℕ, ◌-◌, ◌≤◌, ◌<◌}
-use mathlib.Core.Path.{◌≡◌, refl, sym, ap, ap₂, ◌∙◌}
+use mathlib.Core.Path.{◌≡◌}
 use mathlib.Core.Bool.{false}
-use lib.ListN.{set}
-use borrow.Author.Count.{below_more}
 use Rattle.wire.specs.Lists.{tab}
 use Rattle.offload_binary.specs.Lists.{slots}
 use Rattle.offload_binary.specs.Binary.{pair, bad_pair, no_pair}
-use Rattle.offload_binary.proofs.ListLaws.{slots_next}
-use Rattle.offload_binary_reader.proofs.PairLaws.{read_bad, read_is, pairs_bad, pairs_good}
 use Rattle.offload_binary_reader.proofs.read_pairs.Given as goal
 
 abbrev pub invariant-loop-i : goal.invariant-loop-i

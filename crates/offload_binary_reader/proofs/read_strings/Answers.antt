@@ -5,7 +5,6 @@ use Rattle.offload_binary.specs.Binary.{bytes_at}
 use Rattle.offload_binary_reader.specs.Code.{read_pairs}
 use Rattle.offload_binary_reader.proofs.HeadLaws.{table_fits}
 use Rattle.offload_binary_reader.proofs.BodyLaws.{length_o, strings_table, strings_pairs, strings_keys, strings_good}
-use borrow.Author.Rules.{rules}
 use Rattle.offload_binary_reader.proofs.read_strings.Goals as goal
 
 pub returns-then-bad_table : goal.returns-then-bad_table

@@ -1,5 +1,4 @@
 use Rattle.offload_binary_reader.proofs.StringLaws.{len_low, len_open, len_is}
-use borrow.Author.Rules.{rules}
 use Rattle.offload_binary_reader.proofs.string_len.Goals as goal
 
 pub returns-then-at-lt32 : goal.returns-then-at-lt32

@@ -1,9 +1,5 @@
-use Prim.Native.Nat.{◌+◌, ◌-◌, ◌≤◌}
+use Prim.Native.Nat.{◌+◌}
 use native.Mathlib.Omega.{arith}
-use mathlib.Core.Path.{◌≡◌}
-use mathlib.Core.Bool.{false}
-use borrow.Author.Rules.{rules}
-use Rattle.offload_binary_recovery.specs.Code.{NonePasses}
 use Rattle.offload_binary_recovery.proofs.SearchLaws.{magic-not, block_more}
 use Rattle.offload_binary_recovery.proofs.has_magic.Goals as goal
 

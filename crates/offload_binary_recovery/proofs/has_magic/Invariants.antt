@@ -1,10 +1,7 @@
 use Prim.Native.Nat.{◌+◌, ◌-◌, ◌≤◌}
-use native.Mathlib.Omega.{arith}
 use mathlib.Core.Path.{◌≡◌}
 use mathlib.Core.Bool.{false}
-use borrow.Author.Rules.{rules}
 use Rattle.offload_binary_recovery.specs.Code.{NonePasses}
-use Rattle.offload_binary_recovery.proofs.SearchLaws.{magic-not, block_more}
 use Rattle.offload_binary_recovery.proofs.has_magic.Given as goal
 
 abbrev pub invariant-loop-i : goal.invariant-loop-i

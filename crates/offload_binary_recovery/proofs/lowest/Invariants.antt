@@ -1,9 +1,6 @@
-use Prim.Native.Nat.{◌+◌, ◌-◌, ◌≤◌}
-use native.Mathlib.Omega.{arith}
+use Prim.Native.Nat.{◌-◌, ◌≤◌}
 use lib.ListN.{length}
-use borrow.Author.Rules.{rules}
 use Rattle.offload_binary_recovery.specs.Code.{NonePasses}
-use Rattle.offload_binary_recovery.proofs.SearchLaws.{none_then, lowest-found}
 use Rattle.offload_binary_recovery.proofs.lowest.Given as goal
 
 abbrev pub invariant-loop-p : goal.invariant-loop-p

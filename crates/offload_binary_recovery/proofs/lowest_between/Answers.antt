@@ -1,8 +1,5 @@
-use Prim.Native.Nat.{◌-◌, ◌≤◌}
 use native.Mathlib.Omega.{arith}
 use mathlib.Core.Path.{sym, ◌∙◌}
-use borrow.Author.Rules.{rules}
-use Rattle.offload_binary_recovery.specs.Code.{NonePasses}
 use Rattle.offload_binary_recovery.proofs.SearchLaws.{none_more}
 use Rattle.offload_binary_recovery.proofs.lowest_between.Goals as goal
 

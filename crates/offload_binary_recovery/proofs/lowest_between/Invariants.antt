@@ -1,9 +1,5 @@
 use Prim.Native.Nat.{◌-◌, ◌≤◌}
-use native.Mathlib.Omega.{arith}
-use mathlib.Core.Path.{sym, ◌∙◌}
-use borrow.Author.Rules.{rules}
 use Rattle.offload_binary_recovery.specs.Code.{NonePasses}
-use Rattle.offload_binary_recovery.proofs.SearchLaws.{none_more}
 use Rattle.offload_binary_recovery.proofs.lowest_between.Given as goal
 
 abbrev pub invariant-loop-p : goal.invariant-loop-p

@@ -1,5 +1,4 @@
 use native.Mathlib.Omega.{arith}
-use borrow.Author.Rules.{rules}
 use Rattle.offload_binary_recovery.proofs.lowest_in_block.Goals as goal
 
 pub returns : goal.returns

@@ -1,6 +1,5 @@
 use mathlib.Core.Path.{ap, ◌∙◌}
 use lib.Dec.{eqb}
-use borrow.Author.Rules.{rules}
 use Rattle.offload_binary_recovery.proofs.SearchLaws.{passes-not, passes_read}
 use Rattle.offload_binary_recovery.proofs.passes.Goals as goal
 

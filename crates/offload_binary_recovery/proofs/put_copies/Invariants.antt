@@ -1,13 +1,9 @@
 use Prim.Native.Nat.{◌-◌, ◌≤◌}
-use native.Mathlib.Omega.{arith}
-use mathlib.Core.Path.{◌≡◌, ap, ◌∙◌}
+use mathlib.Core.Path.{◌≡◌}
 use lib.ListN.{length, take}
-use borrow.Author.Rules.{rules}
 use Rattle.wire.specs.Bytes.{overwrite}
-use Rattle.wire.proofs.OverwriteLaws.{length-overwrite}
 use Rattle.offload_binary.specs.Reader.{end_to_end}
 use Rattle.offload_binary.specs.Recovery.{taken}
-use Rattle.offload_binary_recovery.proofs.WriteLaws.{few, copy_size, copy_fits, copy_next, copy_all, copy_none, copy_zero}
 use Rattle.offload_binary_recovery.proofs.put_copies.Given as goal
 
 abbrev pub invariant-loop-i : goal.invariant-loop-i

@@ -1,4 +1,3 @@
-use borrow.Author.Rules.{rules}
 use Rattle.wire.proofs.RowLaws.{added_none}
 use Rattle.offload_binary.proofs.RecoveryLaws.{gap_yes, gap_no}
 use Rattle.offload_binary_recovery.proofs.put_gap.Goals as goal

@@ -1,5 +1,4 @@
 use native.Mathlib.Omega.{arith}
-use borrow.Author.Rules.{rules}
 use Rattle.wire.proofs.RowLaws.{added_one, added_past, added_counted}
 use Rattle.offload_binary_recovery.proofs.put_span.Goals as goal
 

@@ -1,5 +1,4 @@
 use mathlib.Core.Path.{refl}
-use borrow.Author.Rules.{rules}
 use Rattle.offload_binary_recovery.proofs.CallLaws.{call_long, call_many, call_copies, call_spans, call_done}
 use Rattle.offload_binary_recovery.proofs.recover.Goals as goal
 

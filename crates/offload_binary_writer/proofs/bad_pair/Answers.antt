@@ -1,6 +1,5 @@
 use mathlib.Core.Path.{sym, ◌∙◌}
 use Rattle.offload_binary_writer.proofs.PartLaws.{pair-key, pair-text, pair-empty}
-use borrow.Author.Rules.{rules}
 use Rattle.offload_binary_writer.proofs.bad_pair.Goals as goal
 
 pub returns-then-bad_part : goal.returns-then-bad_part

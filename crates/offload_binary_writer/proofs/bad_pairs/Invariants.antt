@@ -1,13 +1,9 @@
-use borrow.Author.Rules.{rules}
-use native.Mathlib.Omega.{arith}
 use Prim.Native.Nat.{ℕ, ◌-◌, ◌≤◌, ◌<◌}
-use mathlib.Core.Path.{◌≡◌, sym, ◌∙◌}
+use mathlib.Core.Path.{◌≡◌}
 use mathlib.Core.Bool.{false}
 use lib.ListN.{get_or}
-use borrow.Author.Count.{below_more}
 use Rattle.offload_binary.specs.Binary.{no_pair}
 use Rattle.offload_binary.specs.Writer.{bad_pair}
-use Rattle.offload_binary.proofs.CallLaws.{pairs_many, pairs_bad, pairs_keys}
 use Rattle.offload_binary_writer.proofs.bad_pairs.Given as goal
 
 abbrev pub invariant-loop-i : goal.invariant-loop-i

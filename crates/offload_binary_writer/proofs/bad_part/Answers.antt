@@ -1,6 +1,5 @@
 use mathlib.Core.Path.{sym, ◌∙◌}
 use Rattle.offload_binary_writer.proofs.PartLaws.{part-outside, part-long, part_ends}
-use borrow.Author.Rules.{rules}
 use Rattle.offload_binary_writer.proofs.bad_part.Goals as goal
 
 pub returns-then-passes : goal.returns-then-passes

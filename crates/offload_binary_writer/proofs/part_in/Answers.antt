@@ -1,5 +1,4 @@
 use Rattle.offload_binary.proofs.TextLaws.{part-key, part-text}
-use borrow.Author.Rules.{rules}
 use Rattle.offload_binary_writer.proofs.part_in.Goals as goal
 
 pub returns-then-j-eq0 : goal.returns-then-j-eq0

@@ -1,7 +1,6 @@
 use native.Mathlib.Omega.{arith}
 use Prim.Native.Nat.{◌+◌, ◌*◌}
 use Rattle.offload_binary_writer.proofs.WholeLaws.{up8_top}
-use borrow.Author.Rules.{rules}
 use Rattle.offload_binary_writer.proofs.places.Goals as goal
 
 pub overflow_add-stop : goal.overflow_add-stop

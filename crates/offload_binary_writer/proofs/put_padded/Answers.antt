@@ -5,7 +5,6 @@ use mathlib.Core.List.{List}
 use Rattle.wire.specs.Bytes.{overwrite}
 use Rattle.wire.proofs.OverwriteLaws.{overwrite_then}
 use lib.ListN.{length, replicate, length-replicate}
-use borrow.Author.Rules.{rules}
 use Rattle.offload_binary_writer.proofs.put_padded.Goals as goal
 
 pub put_zeros-requires : goal.put_zeros-requires

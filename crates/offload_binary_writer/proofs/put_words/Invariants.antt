@@ -1,12 +1,8 @@
-use borrow.Author.Rules.{rules}
-use native.Mathlib.Omega.{arith}
-use Prim.Native.Nat.{◌+◌, ◌*◌, ◌-◌, ◌≤◌}
-use mathlib.Core.Path.{◌≡◌, refl, sym, ap, ◌∙◌}
-use lib.ListN.{length, drop, drop_of_length-le}
+use Prim.Native.Nat.{◌*◌, ◌-◌, ◌≤◌}
+use mathlib.Core.Path.{◌≡◌}
+use lib.ListN.{length, drop}
 use Rattle.wire.specs.Bytes.{overwrite}
-use Rattle.wire.proofs.OverwriteLaws.{overwrite_nil}
 use Rattle.offload_binary_writer.specs.Code.{word_bytes}
-use Rattle.offload_binary_writer.proofs.WriteLaws.{words_turn}
 use Rattle.offload_binary_writer.proofs.put_words.Given as goal
 
 -- the words from i on, behind what is written, are all the words

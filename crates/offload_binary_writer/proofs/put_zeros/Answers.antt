@@ -2,7 +2,6 @@ use mathlib.Core.Path.{sym, ap, ◌∙◌}
 use lib.ListN.{length, length-replicate}
 use Rattle.wire.specs.Bytes.{overwrite}
 use Rattle.offload_binary.proofs.TextLaws.{few_zeros}
-use borrow.Author.Rules.{rules}
 use Rattle.offload_binary_writer.proofs.put_zeros.Goals as goal
 
 pub slice_bounds-copy_at-end : goal.slice_bounds-copy_at-end

@@ -1,7 +1,6 @@
 use mathlib.Core.Path.{ap, ◌∙◌}
 use Rattle.offload_binary.specs.Binary.{bytes_at}
 use Rattle.offload_binary.specs.Arrays.{text_in}
-use borrow.Author.Rules.{rules}
 use Rattle.offload_binary_writer.proofs.text_in.Goals as goal
 
 pub returns : goal.returns

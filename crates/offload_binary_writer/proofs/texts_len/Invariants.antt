@@ -1,12 +1,9 @@
-use borrow.Author.Rules.{rules}
-use native.Mathlib.Omega.{arith}
 use Prim.Native.Nat.{◌*◌, ◌-◌, ◌≤◌}
-use mathlib.Core.Path.{◌≡◌, sym, ap, ◌∙◌}
+use mathlib.Core.Path.{◌≡◌}
 use lib.ListN.{length}
 use Rattle.wire.specs.Lists.{tab}
 use Rattle.offload_binary.specs.Contents.{string_bytes}
 use Rattle.offload_binary.specs.Arrays.{text_in}
-use Rattle.offload_binary.proofs.TextLaws.{strings_none, length_more}
 use Rattle.offload_binary_writer.proofs.texts_len.Given as goal
 
 abbrev pub invariant-loop-j : goal.invariant-loop-j

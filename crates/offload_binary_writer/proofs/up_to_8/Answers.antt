@@ -1,6 +1,5 @@
 use mathlib.Core.Path.{refl}
 use Rattle.offload_binary.specs.Contents.{up8}
-use borrow.Author.Rules.{rules}
 use Rattle.offload_binary_writer.proofs.up_to_8.Goals as goal
 
 pub returns : goal.returns

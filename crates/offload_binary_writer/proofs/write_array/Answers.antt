@@ -3,7 +3,6 @@ use mathlib.Core.Path.{sym, ◌∙◌}
 use Rattle.offload_binary.specs.Writer.{listed}
 use Rattle.offload_binary_writer.proofs.WholeLaws.{size_is}
 use Rattle.offload_binary.proofs.CallLaws.{few_pairs, short-texts, call_kinds, call_pairs, call_big, image_big, call_room, call_good}
-use borrow.Author.Rules.{rules}
 use Rattle.offload_binary_writer.proofs.write_array.Goals as goal
 
 pub returns-then-bad_kinds : goal.returns-then-bad_kinds

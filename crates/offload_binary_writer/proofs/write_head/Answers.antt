@@ -1,5 +1,4 @@
 use Rattle.offload_binary_writer.specs.Code.{tags_word, head_words}
-use borrow.Author.Rules.{rules}
 use Rattle.offload_binary_writer.proofs.write_head.Goals as goal
 
 pub returns : goal.returns

@@ -8,7 +8,6 @@ use Rattle.wire.proofs.OverwriteLaws.{overwrite_then}
 use Rattle.offload_binary.proofs.WrittenLaws.{up8_le}
 use Rattle.offload_binary_writer.specs.Code.{image_bytes}
 use Rattle.offload_binary_writer.proofs.WholeLaws.{up8_top}
-use borrow.Author.Rules.{rules}
 use Rattle.offload_binary_writer.proofs.write_image.Goals as goal
 
 pub overflow_sub-start : goal.overflow_sub-start

@@ -6,7 +6,6 @@ use Rattle.offload_binary.specs.Arrays.{text_in}
 use Rattle.offload_binary_writer.specs.Code.{image_bytes}
 use Rattle.offload_binary_writer.proofs.WholeLaws.{ordered, whole}
 use Rattle.offload_binary_writer.proofs.WriteLaws.{laid}
-use borrow.Author.Rules.{rules}
 use Rattle.offload_binary_writer.proofs.write_parts.Goals as goal
 
 pub write_head-requires : goal.write_head-requires

@@ -1,13 +1,10 @@
 use borrow.Author.Rules.{rules}
 use native.Mathlib.Omega.{arith}
-use Prim.Native.Nat.{◌+◌, ◌-◌, ◌≤◌}
 use mathlib.Core.Path.{◌≡◌, refl, sym, ap, ap₂, ◌∙◌}
 use mathlib.Core.List.{[]}
 use lib.ListN.{length}
 use Rattle.wire.specs.Bytes.{overwrite}
 use Rattle.wire.proofs.OverwriteLaws.{overwrite_nil}
-use Rattle.wire.specs.Lists.{tab}
-use Rattle.offload_binary.specs.Contents.{string_bytes}
 use Rattle.offload_binary.specs.Arrays.{text_in}
 use Rattle.offload_binary.proofs.TextLaws.{strings_none, offsets-none, length_more}
 use Rattle.offload_binary_writer.proofs.WriteLaws.{laid, strings_room, strings_turn}

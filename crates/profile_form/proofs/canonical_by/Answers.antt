@@ -1,4 +1,3 @@
-use borrow.Author.Rules.{rules}
 use Rattle.entry_id.specs.Canonical.{canonical_in}
 use Rattle.entry_id.specs.Rules.{canon_of, form_in}
 use Rattle.profile_form.proofs.canonical_by.Goals as goal

@@ -1,7 +1,6 @@
 use Prim.Native.Nat.{ℕ}
 use lib.ListN.{replicate, length-replicate}
 use Rattle.profile_form.proofs.MadeLaws.{made-within, made-long, made_canonical, made_profile}
-use borrow.Author.Rules.{rules}
 use Rattle.profile_form.proofs.canonical_profile.Goals as goal
 
 -- `profile_form::canonical_profile` meets its contract. Assumes nothing.

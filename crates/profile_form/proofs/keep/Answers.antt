@@ -2,7 +2,6 @@ use native.Mathlib.Omega.{arith}
 use lib.ListN.{length}
 use Rattle.canonical_form.specs.Made.{form_of}
 use Rattle.profile_form.proofs.WriteLaws.{room_no, written_none, written_all}
-use borrow.Author.Rules.{rules}
 use Rattle.profile_form.proofs.keep.Goals as goal
 
 -- `profile_form::keep` meets its contract. Assumes nothing.

@@ -1,10 +1,8 @@
 use native.Mathlib.Omega.{arith}
 use mathlib.Core.Path.{ap}
 use lib.ListN.{length}
-use borrow.Author.Tests.{not-true, not-false}
 use Rattle.profile_form.proofs.TableLaws.{table-length}
 use Rattle.profile_form.proofs.FormLaws.{no_row, primary_in_lem, not-supported, own_primary, with_primary_lem, rename_fits}
-use borrow.Author.Rules.{rules}
 use Rattle.profile_form.proofs.ours.Goals as goal
 
 -- `profile_form::ours` meets its contract. Assumes nothing.

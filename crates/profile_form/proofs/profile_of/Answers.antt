@@ -4,7 +4,6 @@ use Rattle.entry_id.specs.Processors.{processors, names}
 use Rattle.profile_form.specs.Table.{mark, row_for, rows_for, rows_from, table}
 use Rattle.profile_form.specs.Parts.{Written}
 use Rattle.profile_form.proofs.PartLaws.{arch-behind, keeps_other, keeps_none, finds_ours}
-use borrow.Author.Rules.{rules}
 use Rattle.profile_form.proofs.profile_of.Goals as goal
 
 -- `profile_form::profile_of` meets its contract. Assumes nothing.

@@ -3,7 +3,6 @@ use mathlib.Core.Path.{sym}
 use lib.Seq.{length-take-le}
 use Rattle.profile_form.specs.Parts.{renamed}
 use Rattle.profile_form.proofs.WriteLaws.{renamed-long, limit-none, limit-short, renamed-made}
-use borrow.Author.Rules.{rules}
 use Rattle.profile_form.proofs.rename.Goals as goal
 
 -- `profile_form::rename` meets its contract. Assumes nothing.

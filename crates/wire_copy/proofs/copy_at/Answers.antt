@@ -1,9 +1,9 @@
 use borrow.Author.Rules.{rules}
 use native.Mathlib.Omega.{arith}
 use mathlib.Core.Path.{◌≡◌, refl, sym, ◌∙◌}
-use Prim.Native.Nat.{◌≤◌, ◌<◌, ◌-◌, ◌+◌}
+use Prim.Native.Nat.{◌≤◌, ◌<◌, ◌+◌}
 use lib.ListN.{length}
-use lib.Seq.{paste, paste-zero}
+use lib.Seq.{paste-zero}
 use Rattle.wire.proofs.OverwriteLaws.{paste_part, paste_all, overwrite-not}
 use Rattle.wire_copy.proofs.copy_at.Goals.{Joined-n-gt-PART, then-n-gt-PART, else-n-gt-PART}
 use Rattle.wire_copy.proofs.copy_at.Goals as goal

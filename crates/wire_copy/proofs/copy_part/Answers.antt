@@ -4,10 +4,10 @@ use borrow.Author.Count.{below_none}
 use native.Mathlib.Omega.{arith}
 use native.Mathlib.Numerals.{add-one}
 use mathlib.Core.Path.{◌≡◌, refl, ap, ◌∙◌}
-use Prim.Native.Nat.{ℕ, ◌≤◌, ◌<◌, ◌-◌, ◌+◌}
+use Prim.Native.Nat.{ℕ, ◌<◌}
 use mathlib.Core.List.{List}
-use lib.ListN.{length, get_or, drop, replicate, length-replicate, length-set, length-drop}
-use lib.Seq.{paste, paste-zero, paste-suc, get_or-drop}
+use lib.ListN.{length, drop, replicate, length-replicate, length-set, length-drop}
+use lib.Seq.{paste-zero, paste-suc, get_or-drop}
 use Rattle.wire_copy.proofs.copy_part.Goals as goal
 
 -- the length is a variable here, so that nothing counts it out

@@ -1,13 +1,7 @@
-use Rattle.wire.proofs.OverwriteLaws.{filled}
-use borrow.Author.Rules.{rules}
-use borrow.Author.Count.{below_none}
-use native.Mathlib.Omega.{arith}
-use native.Mathlib.Numerals.{add-one}
-use mathlib.Core.Path.{◌≡◌, refl, ap, ◌∙◌}
+use mathlib.Core.Path.{◌≡◌}
 use Prim.Native.Nat.{ℕ, ◌≤◌, ◌<◌, ◌-◌, ◌+◌}
-use mathlib.Core.List.{List}
-use lib.ListN.{length, get_or, drop, replicate, length-replicate, length-set, length-drop}
-use lib.Seq.{paste, paste-zero, paste-suc, get_or-drop}
+use lib.ListN.{length, get_or, drop}
+use lib.Seq.{paste}
 use Rattle.wire_copy.proofs.copy_part.Given as goal
 
 abbrev pub invariant-loop-k : goal.invariant-loop-k

@@ -1,7 +1,6 @@
 use native.Mathlib.Omega.{arith}
 use mathlib.Core.Path.{sym}
 use Rattle.wire.proofs.WordLaws.{word_byte, word-beyond}
-use borrow.Author.Rules.{rules}
 use Rattle.wire_read.proofs.byte_at.Goals as goal
 
 pub returns-then-at-s : goal.returns-then-at-s

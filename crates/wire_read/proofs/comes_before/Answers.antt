@@ -2,7 +2,6 @@ use Prim.Native.Nat.{ℕ, ◌<◌}
 use mathlib.Core.Logic.{⊎_elim}
 use lib.ListN.{get_or}
 use native.Mathlib.Omega.{arith}
-use borrow.Author.Rules.{rules}
 use Rattle.wire_read.proofs.BigEndianLaws.{big_differs, before_big}
 use Rattle.wire_read.proofs.comes_before.Goals as goal
 

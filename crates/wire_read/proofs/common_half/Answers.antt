@@ -1,5 +1,4 @@
 use native.Mathlib.Omega.{arith}
-use borrow.Author.Rules.{rules}
 use Rattle.wire.proofs.Bools.{clash}
 use Rattle.wire.proofs.ByteLaws.{common-past, common-short}
 use Rattle.wire_read.proofs.common_half.Goals as goal

@@ -1,9 +1,6 @@
-use Prim.Native.Nat.{◌≤◌, ◌-◌}
 use mathlib.Core.Path.{refl}
 use mathlib.Core.Logic.{inl}
 use native.Mathlib.Omega.{arith}
-use borrow.Author.Tests.{not-true, not-false}
-use Rattle.wire.specs.Bytes.{common}
 use Rattle.wire.proofs.Bools.{clash}
 use Rattle.wire.proofs.ByteLaws.{common-past, common-short}
 use Rattle.wire_read.proofs.common_words.Goals as goal

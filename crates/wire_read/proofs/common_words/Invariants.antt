@@ -1,11 +1,5 @@
 use Prim.Native.Nat.{◌≤◌, ◌-◌}
-use mathlib.Core.Path.{refl}
-use mathlib.Core.Logic.{inl}
-use native.Mathlib.Omega.{arith}
-use borrow.Author.Tests.{not-true, not-false}
 use Rattle.wire.specs.Bytes.{common}
-use Rattle.wire.proofs.Bools.{clash}
-use Rattle.wire.proofs.ByteLaws.{common-past, common-short}
 use Rattle.wire_read.proofs.common_words.Given as goal
 
 abbrev pub invariant-loop-i : goal.invariant-loop-i

@@ -1,6 +1,5 @@
 use mathlib.Core.Path.{sym, ◌∙◌}
 use native.Mathlib.Omega.{arith}
-use borrow.Author.Rules.{rules}
 use Rattle.wire_read.proofs.BigEndianLaws.{before_big, before_even}
 use Rattle.wire_read.proofs.end_before.Goals as goal
 

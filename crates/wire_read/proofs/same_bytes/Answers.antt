@@ -1,7 +1,6 @@
 use mathlib.Core.Path.{sym}
 use native.Mathlib.Omega.{arith}
 use Rattle.wire.proofs.ByteLaws.{same_length, same-common}
-use borrow.Author.Rules.{rules}
 use Rattle.wire_read.proofs.same_bytes.Goals as goal
 
 pub returns-then-a-b : goal.returns-then-a-b

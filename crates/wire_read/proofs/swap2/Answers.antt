@@ -1,5 +1,4 @@
 use native.Mathlib.Omega.{arith}
-use borrow.Author.Rules.{rules}
 use Rattle.wire_read.proofs.BigEndianLaws.{swapped_byte, swapped_halves}
 use Rattle.wire_read.proofs.swap2.Goals as goal
 

@@ -1,4 +1,3 @@
-use borrow.Author.Rules.{rules}
 use Rattle.wire_read.proofs.BigEndianLaws.{swapped_halves}
 use Rattle.wire_read.proofs.swap8.Goals as goal
 

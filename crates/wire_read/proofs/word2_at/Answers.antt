@@ -2,7 +2,6 @@ use native.Mathlib.Omega.{arith}
 use Prim.Native.Nat.{◌+◌}
 use mathlib.Core.Path.{sym}
 use Rattle.wire.proofs.WordLaws.{word_split, word-beyond}
-use borrow.Author.Rules.{rules}
 use Rattle.wire_read.proofs.word2_at.Goals as goal
 
 pub returns-then-s-at : goal.returns-then-s-at

@@ -1,7 +1,6 @@
 use native.Mathlib.Omega.{arith}
 use Prim.Native.Nat.{◌+◌}
 use Rattle.wire.proofs.WordLaws.{word_split, word_byte}
-use borrow.Author.Rules.{rules}
 use Rattle.wire_read.proofs.word2_in.Goals as goal
 
 pub returns : goal.returns

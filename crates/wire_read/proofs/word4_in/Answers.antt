@@ -1,6 +1,5 @@
 use native.Mathlib.Omega.{arith}
 use Rattle.wire.proofs.WordLaws.{word_split}
-use borrow.Author.Rules.{rules}
 use Rattle.wire_read.proofs.word4_in.Goals as goal
 
 pub returns : goal.returns

@@ -1,7 +1,6 @@
 use native.Mathlib.Omega.{arith}
 use mathlib.Core.Path.{sym}
 use Rattle.wire.proofs.WordLaws.{word_split, word-beyond}
-use borrow.Author.Rules.{rules}
 use Rattle.wire_read.proofs.word8_at.Goals as goal
 
 pub returns-then-s-at : goal.returns-then-s-at

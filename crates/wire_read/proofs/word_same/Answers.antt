@@ -1,6 +1,5 @@
 use mathlib.Core.Path.{sym, ◌∙◌}
 use native.Mathlib.Omega.{arith}
-use borrow.Author.Rules.{rules}
 use borrow.Author.Tests.{eqb-true, eq-eqb}
 use Rattle.wire.proofs.WordLaws.{word-agree, word_get}
 use Rattle.wire_read.proofs.word_same.Goals as goal

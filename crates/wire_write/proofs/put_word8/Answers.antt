@@ -1,5 +1,4 @@
 use Rattle.wire.specs.Word.{bytes_of}
-use borrow.Author.Rules.{rules}
 use Rattle.wire_write.proofs.put_word8.Goals as goal
 
 pub returns : goal.returns

@@ -1,9 +1,7 @@
-use Prim.Native.Nat.{◌+◌, ◌-◌, ◌<◌, ◌≤◌}
+use Prim.Native.Nat.{◌<◌, ◌≤◌}
 use native.Mathlib.Omega.{arith}
-use mathlib.Core.Path.{◌≡◌, refl, sym, ◌∙◌}
-use mathlib.Core.List.{◌++◌, map}
-use lib.ListN.{length, take, drop, length-set}
-use Rattle.bundle_compare.specs.Code.{alone}
+use mathlib.Core.Path.{refl, sym, ◌∙◌}
+use lib.ListN.{length, length-set}
 use Rattle.bundle_compare.proofs.FindLaws.{rest_next, rest_end}
 use Rattle.bundle_compare.proofs.find.add_rest.Goals as goal
 

@@ -1,10 +1,8 @@
-use Prim.Native.Nat.{◌+◌, ◌-◌, ◌<◌, ◌≤◌}
-use native.Mathlib.Omega.{arith}
-use mathlib.Core.Path.{◌≡◌, refl, sym, ◌∙◌}
+use Prim.Native.Nat.{◌+◌, ◌-◌, ◌≤◌}
+use mathlib.Core.Path.{◌≡◌}
 use mathlib.Core.List.{◌++◌, map}
-use lib.ListN.{length, take, drop, length-set}
+use lib.ListN.{length, take, drop}
 use Rattle.bundle_compare.specs.Code.{alone}
-use Rattle.bundle_compare.proofs.FindLaws.{rest_next, rest_end}
 use Rattle.bundle_compare.proofs.find.add_rest.Given as goal
 
 abbrev pub invariant-loop-k : goal.invariant-loop-k

@@ -1,4 +1,4 @@
-use Prim.Native.Nat.{◌+◌, ◌-◌, ◌<◌, ◌≤◌}
+use Prim.Native.Nat.{◌+◌, ◌<◌, ◌≤◌}
 use native.Mathlib.Omega.{arith}
 use mathlib.Core.Path.{◌∙◌}
 use mathlib.Core.List.{[]}
@@ -9,7 +9,7 @@ use Rattle.wire.proofs.ListLaws.{at_member}
 use Rattle.bundle.proofs.WalkLaws.{walk_rising}
 use Rattle.bundle_compare.proofs.TurnLaws.{turned_some}
 use Rattle.bundle_compare.proofs.FindLaws.{Progress, progress_none, progress_next, progress_printable, progress_end}
-use Rattle.bundle_compare.proofs.find.find_differences.Goals.{After-row-1, In-loop-i}
+use Rattle.bundle_compare.proofs.find.find_differences.Goals.{After-take_turn-t, In-loop-i}
 use Rattle.bundle_compare.proofs.find.find_differences.Goals as goal
 
 -- both have an entry left
@@ -20,7 +20,7 @@ room : (c : In-loop-i) → c.loop-i.count < length c.loop-i.found
 room c = let v = c.loop-i.invariant in let h = inside c in omega (arith, h.0, h.1, v.few, v.same_room, c.requires.short_ids.2)
 
 -- what a turn comes to
-next : (c : After-row-1)
+next : (c : After-take_turn-t)
     → let a = c.args in let l = c.loop-i in let t = c.take_turn-t.result in
     Progress a.left.now a.right.now a.left_texts.now a.right_texts.now a.left_places.now a.right_places.now (length a.found.now) (set l.found l.count t.row) (l.i + t.left) (l.j + t.right) (l.count + t.lines)
 next c =
@@ -32,7 +32,7 @@ next c =
     let right : l.j < length c.args.right_places.now = ltb-true _ _ b.1 in
     progress_next _ _ _ _ _ _ _ l.found l.i l.j l.count v left right (omega (arith, v.few, v.same_room, c.requires.short_ids.2)) _ _ _ _ t.0 t.1
 
-some : (c : After-row-1) → let t = c.take_turn-t.result in (t.left ≤ 1) × (t.right ≤ 1) × (1 ≤ t.left + t.right) × (t.lines ≤ 1)
+some : (c : After-take_turn-t) → let t = c.take_turn-t.result in (t.left ≤ 1) × (t.right ≤ 1) × (1 ≤ t.left + t.right) × (t.lines ≤ 1)
 some c = turned_some _ _ _ _ _ _ c.take_turn-t.ensures.0
 
 pub loop-i-init : goal.loop-i-init
@@ -64,22 +64,22 @@ pub bounds-found-count : goal.bounds-found-count
 bounds-found-count c = room (goal.at.bounds-found-count c).In-loop-i
 
 pub overflow_add-count : goal.overflow_add-count
-overflow_add-count c = omega (arith, room (goal.at.overflow_add-count c).In-loop-i, (some (goal.at.overflow_add-count c).After-row-1).3)
+overflow_add-count c = omega (arith, room (goal.at.overflow_add-count c).In-loop-i, (some (goal.at.overflow_add-count c).After-take_turn-t).3)
 
 pub overflow_add-i : goal.overflow_add-i
-overflow_add-i c = omega (arith, (inside (goal.at.overflow_add-i c).In-loop-i).0, (some (goal.at.overflow_add-i c).After-row-1).0)
+overflow_add-i c = omega (arith, (inside (goal.at.overflow_add-i c).In-loop-i).0, (some (goal.at.overflow_add-i c).After-take_turn-t).0)
 
 pub overflow_add-j : goal.overflow_add-j
-overflow_add-j c = omega (arith, (inside (goal.at.overflow_add-j c).In-loop-i).1, (some (goal.at.overflow_add-j c).After-row-1).1)
+overflow_add-j c = omega (arith, (inside (goal.at.overflow_add-j c).In-loop-i).1, (some (goal.at.overflow_add-j c).After-take_turn-t).1)
 
 pub loop-i-smaller : goal.loop-i-smaller
 loop-i-smaller c =
     let h = inside (goal.at.loop-i-smaller c).In-loop-i in
-    let s = some (goal.at.loop-i-smaller c).After-row-1 in
+    let s = some (goal.at.loop-i-smaller c).After-take_turn-t in
     omega (arith, h.0, h.1, s.0, s.1, s.2)
 
 pub loop-i-preserved : goal.loop-i-preserved
-loop-i-preserved c = next (goal.at.loop-i-preserved c).After-row-1
+loop-i-preserved c = next (goal.at.loop-i-preserved c).After-take_turn-t
 
 pub add_rest-more-requires : goal.add_rest-more-requires
 add_rest-more-requires c =

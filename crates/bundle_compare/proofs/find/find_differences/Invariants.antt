@@ -1,14 +1,6 @@
-use Prim.Native.Nat.{◌+◌, ◌-◌, ◌<◌, ◌≤◌}
-use native.Mathlib.Omega.{arith}
-use mathlib.Core.Path.{◌∙◌}
-use mathlib.Core.List.{[]}
-use lib.ListN.{length, set}
-use borrow.Author.Tests.{ltb-true}
-use Rattle.wire.proofs.Bools.{and_both}
-use Rattle.wire.proofs.ListLaws.{at_member}
-use Rattle.bundle.proofs.WalkLaws.{walk_rising}
-use Rattle.bundle_compare.proofs.TurnLaws.{turned_some}
-use Rattle.bundle_compare.proofs.FindLaws.{Progress, progress_none, progress_next, progress_printable, progress_end}
+use Prim.Native.Nat.{◌+◌, ◌-◌}
+use lib.ListN.{length}
+use Rattle.bundle_compare.proofs.FindLaws.{Progress}
 use Rattle.bundle_compare.proofs.find.find_differences.Given as goal
 
 abbrev pub invariant-loop-i : goal.invariant-loop-i

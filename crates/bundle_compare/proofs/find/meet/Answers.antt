@@ -1,7 +1,6 @@
 use mathlib.Core.Path.{refl, ap}
 use mathlib.Core.List.{[], ◌∷◌}
 use lib.ListN.{get_or}
-use borrow.Author.Rules.{rules}
 use Rattle.bundle_compare.proofs.TurnLaws.{images-common, lines_none, lines-one}
 use Rattle.bundle_compare.proofs.find.meet.Goals as goal
 

@@ -1,5 +1,4 @@
 use native.Mathlib.Omega.{arith}
-use borrow.Author.Rules.{rules}
 use Rattle.bundle_compare.proofs.PartLaws.{part-past, part_end, part_in_lem}
 use Rattle.bundle_compare.proofs.find.part.Goals as goal
 

@@ -1,5 +1,4 @@
 use mathlib.Core.Path.{sym, ◌∙◌}
-use borrow.Author.Rules.{rules}
 use Rattle.bundle_compare.proofs.TurnLaws.{turned_both, turned_left, turned_right}
 use Rattle.bundle_compare.proofs.find.take_turn.Goals as goal
 

@@ -1,4 +1,4 @@
-use Rattle.std.proofs.Common.{◌≡◌, ◌+◌, ◌/◌, ◌%◌, ◌<◌, ◌≤◌, [], ◌∷◌, length, ap, arith, length-append}
+use Rattle.std.proofs.Common.{◌+◌, ◌/◌, ◌%◌, ◌<◌, ◌≤◌, [], ◌∷◌, length, ap, arith, length-append}
 use Rattle.bundle.specs.Differences.{decimal}
 use Rattle.bundle.proofs.DecimalLaws.{decimal_digit, decimal_more}
 use Rattle.bundle_compare.proofs.PutLaws.{put_then, put_same}

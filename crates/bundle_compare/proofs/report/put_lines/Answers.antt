@@ -1,10 +1,6 @@
-use Prim.Native.Nat.{◌*◌, ◌-◌, ◌≤◌}
 use native.Mathlib.Omega.{arith}
-use mathlib.Core.List.{[], map}
-use lib.ListN.{length, take}
+use mathlib.Core.List.{[]}
 use Rattle.wire.proofs.ListLaws.{at_member}
-use Rattle.bundle.specs.Differences.{line, printed}
-use Rattle.bundle_compare.specs.Code.{difference_from, Put}
 use Rattle.bundle_compare.proofs.PutLaws.{put_then, put_same}
 use Rattle.bundle_compare.proofs.TextLaws.{lines_none, lines_next, lines_all}
 use Rattle.bundle_compare.proofs.report.put_lines.Goals as goal

@@ -1,4 +1,3 @@
-use borrow.Author.Rules.{rules}
 use native.Mathlib.Omega.{arith}
 use Rattle.bundle.proofs.DecimalLaws.{decimal_most}
 use Rattle.bundle_compare.proofs.PutLaws.{put_then}

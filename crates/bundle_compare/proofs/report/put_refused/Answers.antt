@@ -1,4 +1,3 @@
-use borrow.Author.Rules.{rules}
 use Rattle.bundle_compare.proofs.PutLaws.{put_then, put_same}
 use Rattle.bundle_compare.proofs.TextLaws.{refused-bytes}
 use Rattle.bundle_compare.proofs.report.put_refused.Goals as goal

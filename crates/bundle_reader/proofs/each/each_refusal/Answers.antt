@@ -1,6 +1,5 @@
 use native.Mathlib.Omega.{arith}
 use mathlib.Core.Path.{ap, ◌∙◌}
-use borrow.Author.Rules.{rules}
 use Rattle.wire.specs.Stop.{stop}
 use Rattle.bundle_reader.specs.declared.Refusal.{Refusal}
 use Rattle.bundle_reader.proofs.EachLaws.{tests_first, tests_many, tests_room, tests_none}

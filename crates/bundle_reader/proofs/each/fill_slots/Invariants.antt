@@ -1,15 +1,11 @@
-use native.Mathlib.Omega.{arith}
 use Prim.Native.Nat.{◌≤◌, ◌-◌}
-use mathlib.Core.Path.{◌≡◌, ap, ◌∙◌}
+use mathlib.Core.Path.{◌≡◌}
 use lib.ListN.{length}
-use borrow.Author.Rules.{rules}
-use Rattle.wire.specs.Bits.{bits_below}
 use Rattle.wire.specs.Lists.{tab}
 use Rattle.wire.specs.Stop.{over}
-use Rattle.entry_id.specs.Rules.{id_rules, canon_of, rules_of}
-use Rattle.bundle.specs.Each.{slot_of, took, pick_at}
-use Rattle.bundle_reader.proofs.ChoiceLaws.{choice_room}
-use Rattle.bundle_reader.proofs.EachLaws.{choice-taken, choice-row, choice-slot, over_none, over-length, over_room, over_more, word_after, word_none, word_more, word_all, pick_name}
+use Rattle.entry_id.specs.Rules.{id_rules}
+use Rattle.bundle.specs.Each.{slot_of, pick_at}
+use Rattle.bundle_reader.proofs.EachLaws.{word_after}
 use Rattle.bundle_reader.proofs.each.fill_slots.Given as goal
 
 abbrev pub invariant-loop-k : goal.invariant-loop-k

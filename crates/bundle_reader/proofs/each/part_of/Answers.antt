@@ -1,5 +1,4 @@
 use native.Mathlib.Omega.{arith}
-use borrow.Author.Rules.{rules}
 use Rattle.bundle_reader.proofs.EachLaws.{part-outside, rest_length, part_length, part_inside}
 use Rattle.bundle_reader.proofs.each.part_of.Goals as goal
 

@@ -1,7 +1,5 @@
-use borrow.Author.Rules.{rules}
 use native.Mathlib.Omega.{arith}
-use Prim.Native.Nat.{◌-◌, ◌≤◌}
-use mathlib.Core.Path.{◌≡◌, refl, ap, ◌∙◌}
+use mathlib.Core.Path.{refl, ap, ◌∙◌}
 use Rattle.bundle.specs.Table.{row_start}
 use Rattle.bundle_reader.specs.Examined.{filled}
 use Rattle.bundle_reader.specs.Slots.{starts_in}

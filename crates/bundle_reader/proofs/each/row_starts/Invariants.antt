@@ -1,12 +1,7 @@
-use borrow.Author.Rules.{rules}
-use native.Mathlib.Omega.{arith}
 use Prim.Native.Nat.{◌-◌, ◌≤◌}
-use mathlib.Core.Path.{◌≡◌, refl, ap, ◌∙◌}
+use mathlib.Core.Path.{◌≡◌}
 use Rattle.bundle.specs.Table.{row_start}
-use Rattle.bundle_reader.specs.Examined.{filled}
 use Rattle.bundle_reader.specs.Slots.{starts_in}
-use Rattle.bundle_reader.proofs.RowLaws.{next_start, row_here}
-use Rattle.bundle_reader.proofs.EachLaws.{starts_more}
 use Rattle.bundle_reader.proofs.each.row_starts.Given as goal
 
 abbrev pub invariant-loop-i : goal.invariant-loop-i

@@ -1,5 +1,4 @@
 use native.Mathlib.Omega.{arith}
-use borrow.Author.Rules.{rules}
 use Rattle.bundle_reader.proofs.EachLaws.{bit-none, bit-taken}
 use Rattle.bundle_reader.proofs.each.taken_bit.Goals as goal
 

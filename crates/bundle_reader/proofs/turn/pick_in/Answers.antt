@@ -1,4 +1,3 @@
-use borrow.Author.Rules.{rules}
 use Rattle.entry_id.specs.Rules.{id_rules, canon_of, rules_of}
 use Rattle.entry_id.proofs.RuleLaws.{id_rules_lawful}
 use Rattle.bundle_reader.proofs.ChoiceLaws.{known}

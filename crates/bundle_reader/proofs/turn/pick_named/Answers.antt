@@ -1,4 +1,3 @@
-use borrow.Author.Rules.{rules}
 use native.Mathlib.Omega.{arith}
 use mathlib.Core.Path.{refl, sym, ◌∙◌}
 use Rattle.bundle_reader.proofs.ChoiceLaws.{picked-stop, choice_by_lem, choice-pick, choice-fits}

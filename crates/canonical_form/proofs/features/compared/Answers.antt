@@ -1,4 +1,4 @@
-use Rattle.std.proofs.Common.{sym, arith, rules}
+use Rattle.std.proofs.Common.{sym, arith}
 use Rattle.wire.proofs.ByteLaws.{before_in, before_end, before-not}
 use Rattle.canonical_form.proofs.OrderLaws.{same_not, same_whole}
 use Rattle.canonical_form.proofs.features.compared.Goals as goal

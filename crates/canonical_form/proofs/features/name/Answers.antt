@@ -1,4 +1,4 @@
-use Rattle.std.proofs.Common.{add-one, rules, le-ltb, lt-ltb}
+use Rattle.std.proofs.Common.{add-one, le-ltb, lt-ltb}
 use Rattle.entry_id.specs.Scan.{part}
 use Rattle.canonical_form.specs.Spans.{name_of, at_of, sign_of}
 use Rattle.canonical_form.proofs.features.name.Goals as goal

@@ -1,6 +1,4 @@
-use Rattle.std.proofs.Common.{◌≡◌, suc, ◌+◌, ◌-◌, ◌<◌, ◌≤◌, T, length, get_or, take, drop, sym, refl, ◌∙◌, subst, arith, length-set, rules, eqb-true}
-use Rattle.wire.specs.Order.{rising_by}
-use Rattle.canonical_form.specs.Spans.{name_of, placed, new_name}
+use Rattle.std.proofs.Common.{◌+◌, T, get_or, sym, refl, ◌∙◌, subst, arith, length-set, eqb-true}
 use Rattle.canonical_form.proofs.OrderLaws.{place-stop, place_end, place_step, new_before, new_same, new_none, new_step, rising_step}
 use Rattle.canonical_form.proofs.features.place.Goals as goal
 

@@ -1,7 +1,6 @@
-use Rattle.std.proofs.Common.{◌≡◌, suc, ◌+◌, ◌-◌, ◌<◌, ◌≤◌, T, length, get_or, take, drop, sym, refl, ◌∙◌, subst, arith, length-set, rules, eqb-true}
+use Rattle.std.proofs.Common.{◌≡◌, suc, ◌-◌, ◌<◌, ◌≤◌, T, length, get_or, take, drop}
 use Rattle.wire.specs.Order.{rising_by}
 use Rattle.canonical_form.specs.Spans.{name_of, placed, new_name}
-use Rattle.canonical_form.proofs.OrderLaws.{place-stop, place_end, place_step, new_before, new_same, new_none, new_step, rising_step}
 use Rattle.canonical_form.proofs.features.place.Given as goal
 
 -- `features::place` meets its contract. The loop's invariant: the span at i has still to be put in its place, the outcome is the same, and what is

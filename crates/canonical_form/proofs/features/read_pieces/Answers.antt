@@ -1,7 +1,7 @@
-use Rattle.std.proofs.Common.{◌≡◌, suc, ◌+◌, ◌-◌, ◌<◌, ◌≤◌, true, T, eqb, leb, ◌++◌, map, length, take, sym, refl, ◌∙◌, subst, inl, inr, append-nil, add-one, arith, length-set, rules, eqb-true}
+use Rattle.std.proofs.Common.{suc, ◌+◌, ◌<◌, ◌≤◌, T, eqb, leb, map, length, take, sym, refl, ◌∙◌, subst, inl, inr, append-nil, add-one, arith, length-set, eqb-true}
 use Rattle.wire.specs.Lists.{every}
-use Rattle.entry_id.specs.Scan.{ends_at, pieces_at}
-use Rattle.canonical_form.specs.Spans.{piece_ok, piece_at, good, Piece}
+use Rattle.entry_id.specs.Scan.{pieces_at}
+use Rattle.canonical_form.specs.Spans.{piece_ok, piece_at, Piece}
 use Rattle.canonical_form.proofs.SpanLaws.{pieces_bad, pieces_many, pieces_more, good_more, neither, either, both_false}
 use Rattle.entry_id.proofs.RunLaws.{pieces_none}
 use borrow.Author.Tests.{eqb-false}

@@ -1,10 +1,7 @@
-use Rattle.std.proofs.Common.{◌≡◌, suc, ◌+◌, ◌-◌, ◌<◌, ◌≤◌, true, T, eqb, leb, ◌++◌, map, length, take, sym, refl, ◌∙◌, subst, inl, inr, append-nil, add-one, arith, length-set, rules, eqb-true}
+use Rattle.std.proofs.Common.{◌≡◌, ◌-◌, ◌≤◌, true, T, ◌++◌, map, length, take}
 use Rattle.wire.specs.Lists.{every}
 use Rattle.entry_id.specs.Scan.{ends_at, pieces_at}
-use Rattle.canonical_form.specs.Spans.{piece_ok, piece_at, good, Piece}
-use Rattle.canonical_form.proofs.SpanLaws.{pieces_bad, pieces_many, pieces_more, good_more, neither, either, both_false}
-use Rattle.entry_id.proofs.RunLaws.{pieces_none}
-use borrow.Author.Tests.{eqb-false}
+use Rattle.canonical_form.specs.Spans.{piece_at, good}
 use Rattle.canonical_form.proofs.features.read_pieces.Given as goal
 
 -- `features::read_pieces` meets its contract. The loop's invariant: the pieces are those in the table and those from `at` on. Assumes nothing.

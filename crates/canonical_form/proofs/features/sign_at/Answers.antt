@@ -1,5 +1,4 @@
-use Rattle.std.proofs.Common.{◌≡◌, true, T, drop, sym, ap, ◌∙◌, subst, add-one, arith, rules}
-use borrow.Author.Tests.{not-true, not-false}
+use Rattle.std.proofs.Common.{◌≡◌, true, T, drop, sym, ap, ◌∙◌, subst, add-one, arith}
 use Rattle.wire.specs.Lists.{every}
 use Rattle.entry_id.specs.Text.{split_on}
 use Rattle.wire.proofs.Bools.{is_false, of_true}

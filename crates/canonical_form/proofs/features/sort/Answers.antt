@@ -1,7 +1,7 @@
-use Rattle.std.proofs.Common.{◌≡◌, suc, ◌+◌, ◌-◌, ◌≤◌, true, false, ◌&&◌, T, ◌++◌, length, take, drop, sym, refl, ap, ◌∙◌, subst, arith, length-take-le, get_or-take}
+use Rattle.std.proofs.Common.{◌≡◌, suc, ◌-◌, true, false, ◌&&◌, T, take, drop, sym, refl, ap, ◌∙◌, subst, arith, length-take-le, get_or-take}
 use borrow.Author.Tests.{not-true, not-false}
 use Rattle.wire.proofs.Bools.{and_l, and_r, of_true, is_true, is_false}
-use Rattle.wire.specs.Order.{sort_by, distinct_by}
+use Rattle.wire.specs.Order.{distinct_by}
 use Rattle.canonical_form.specs.Spans.{name_of, new_name}
 use Rattle.canonical_form.proofs.OrderLaws.{sort_step, sort_none, rest_rises, new_distinct, distinct-drop, distinct_none}
 use Rattle.canonical_form.proofs.features.sort.Goals as goal

@@ -1,4 +1,4 @@
-use Rattle.std.proofs.Common.{[], ◌∷◌, length, ◌∙◌, rules, ne_eqb}
+use Rattle.std.proofs.Common.{[], ◌∷◌, length, ◌∙◌, ne_eqb}
 use Rattle.wire.specs.Lists.{every}
 use Rattle.wire.specs.Bytes.{bytes}
 use Rattle.entry_id.specs.Meaning.{kinds}

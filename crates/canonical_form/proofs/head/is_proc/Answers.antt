@@ -1,4 +1,4 @@
-use Rattle.std.proofs.Common.{sym, arith, rules}
+use Rattle.std.proofs.Common.{sym, arith}
 use Rattle.entry_id.proofs.RunLaws.{short_proc}
 use Rattle.canonical_form.proofs.ClassLaws.{proc_g, proc_s}
 use Rattle.canonical_form.proofs.head.is_proc.Goals as goal

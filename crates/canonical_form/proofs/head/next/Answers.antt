@@ -1,4 +1,4 @@
-use Rattle.std.proofs.Common.{◌≡◌, suc, ◌+◌, sym, ◌∙◌, add-one, arith, rules}
+use Rattle.std.proofs.Common.{◌≡◌, suc, ◌+◌, sym, ◌∙◌, add-one, arith}
 use Rattle.entry_id.specs.Meaning.{field_byte}
 use Rattle.entry_id.specs.Scan.{Run}
 use Rattle.entry_id.proofs.RunLaws.{byte_inside}

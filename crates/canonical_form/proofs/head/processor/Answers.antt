@@ -1,5 +1,4 @@
-use Rattle.std.proofs.Common.{◌<◌, not, sym, ap, ◌∙◌, arith, rules}
-use borrow.Author.Tests.{not-true, not-false}
+use Rattle.std.proofs.Common.{◌<◌, not, sym, ap, ◌∙◌, arith}
 use Rattle.wire.proofs.Bools.{of_true}
 use Rattle.entry_id.specs.Meaning.{processor_byte, processor_shaped}
 use Rattle.entry_id.specs.Text.{not_colon}

@@ -1,4 +1,4 @@
-use Rattle.std.proofs.Common.{◌≡◌, ℕ, suc, ◌+◌, ◌<◌, ltb, List, length, get_or, sym, ◌∙◌, add-one, arith, rules}
+use Rattle.std.proofs.Common.{◌≡◌, suc, ◌+◌, ◌<◌, ltb, length, get_or, sym, ◌∙◌, add-one, arith}
 use Rattle.entry_id.specs.Meaning.{field_byte, names_processor}
 use Rattle.entry_id.specs.Scan.{part, Run}
 use Rattle.entry_id.proofs.RunLaws.{byte_inside}

@@ -1,5 +1,4 @@
-use Rattle.std.proofs.Common.{suc, sym, ◌∙◌, arith, length-take-le, rules}
-use borrow.Author.Tests.{not-true, not-false}
+use Rattle.std.proofs.Common.{suc, sym, ◌∙◌, arith, length-take-le}
 use Rattle.canonical_form.proofs.HeadLaws.{triple_kind, triple_second, triple_third, triple_found, not_valid}
 use Rattle.canonical_form.proofs.head.triple.Goals as goal
 

@@ -1,6 +1,4 @@
-use Rattle.std.proofs.Common.{◌≡◌, ◌+◌, ◌-◌, ◌≤◌, length, take, drop, sym, refl, ap, ◌∙◌, arith, rules}
-use Rattle.canonical_form.specs.Spans.{chunks}
-use Rattle.wire.specs.Bytes.{overwrite}
+use Rattle.std.proofs.Common.{◌≡◌, length, sym, refl, ap, ◌∙◌, arith}
 use Rattle.wire.proofs.OverwriteLaws.{length-overwrite}
 use Rattle.canonical_form.proofs.WriteLaws.{next-length, next-over, last_over}
 use Rattle.canonical_form.proofs.plan.put_pieces.Goals as goal

@@ -1,8 +1,6 @@
-use Rattle.std.proofs.Common.{◌≡◌, ◌+◌, ◌-◌, ◌≤◌, length, take, drop, sym, refl, ap, ◌∙◌, arith, rules}
+use Rattle.std.proofs.Common.{◌≡◌, ◌+◌, ◌-◌, ◌≤◌, length, take, drop}
 use Rattle.canonical_form.specs.Spans.{chunks}
 use Rattle.wire.specs.Bytes.{overwrite}
-use Rattle.wire.proofs.OverwriteLaws.{length-overwrite}
-use Rattle.canonical_form.proofs.WriteLaws.{next-length, next-over, last_over}
 use Rattle.canonical_form.proofs.plan.put_pieces.Given as goal
 
 -- `plan::put_pieces` meets its contract. The loop's invariant: what is left, written from q on, gives the outcome. Assumes nothing.

@@ -1,4 +1,4 @@
-use Rattle.std.proofs.Common.{ℕ, ◌+◌, ◌-◌, [], ◌∷◌, take, drop, sym, ap, ◌∙◌, arith, length-take-le, rules}
+use Rattle.std.proofs.Common.{ℕ, ◌+◌, ◌-◌, [], ◌∷◌, take, drop, sym, ap, ◌∙◌, arith, length-take-le}
 use Rattle.wire.specs.Bytes.{overwrite}
 use Rattle.canonical_form.proofs.WriteLaws.{head_over, head_whole, dashes-length}
 use Rattle.canonical_form.proofs.plan.put_text.Goals as goal

@@ -1,4 +1,4 @@
-use Rattle.std.proofs.Common.{◌+◌, ◌≤◌, ◌++◌, length, sym, ap, ◌∙◌, arith, rules}
+use Rattle.std.proofs.Common.{◌+◌, ◌≤◌, ◌++◌, length, sym, ap, ◌∙◌, arith}
 use borrow.Author.Tests.{not-true, not-false}
 use Rattle.canonical_form.specs.Spans.{chunks, head_text}
 use Rattle.canonical_form.proofs.PlanLaws.{plan_no, long-refused, pieces_refused, length-refused, order_refused, proc_refused, plan_yes, text_is, text_tidy}

@@ -1,5 +1,5 @@
 use lib.ListN.{get_or-eq_default}
-use Rattle.std.proofs.Common.{sym, rules}
+use Rattle.std.proofs.Common.{sym}
 use Rattle.canonical_form.proofs.scan.byte.Goals as goal
 
 pub returns-else-i-id : goal.returns-else-i-id

@@ -1,5 +1,5 @@
 use Rattle.entry_id.specs.Scan.{ends_at}
-use Rattle.std.proofs.Common.{rules, le-ltb, lt-ltb}
+use Rattle.std.proofs.Common.{le-ltb, lt-ltb}
 use Rattle.canonical_form.proofs.scan.ends.Goals as goal
 
 pub returns-then-i-id : goal.returns-then-i-id

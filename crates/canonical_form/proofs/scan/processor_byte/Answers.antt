@@ -1,5 +1,4 @@
 use Rattle.entry_id.specs.Meaning.{processor_byte}
-use Rattle.std.proofs.Common.{rules}
 use Rattle.canonical_form.proofs.scan.processor_byte.Goals as goal
 
 pub returns : goal.returns

@@ -1,7 +1,4 @@
-use Rattle.std.proofs.Common.{◌-◌, ◌≤◌, T, length, sym, ◌∙◌, arith, rules}
-use borrow.Author.Tests.{not-true, not-false}
-use Rattle.wire.specs.Lists.{every}
-use Rattle.entry_id.specs.Scan.{part}
+use Rattle.std.proofs.Common.{sym, ◌∙◌, arith}
 use Rattle.canonical_form.specs.Heads.{in_class}
 use Rattle.entry_id.proofs.RunLaws.{run_none, run_more}
 use Rattle.canonical_form.proofs.scan.run_end.Goals as goal

@@ -1,9 +1,7 @@
-use Rattle.std.proofs.Common.{◌-◌, ◌≤◌, T, length, sym, ◌∙◌, arith, rules}
-use borrow.Author.Tests.{not-true, not-false}
+use Rattle.std.proofs.Common.{◌-◌, ◌≤◌, T, length}
 use Rattle.wire.specs.Lists.{every}
 use Rattle.entry_id.specs.Scan.{part}
 use Rattle.canonical_form.specs.Heads.{in_class}
-use Rattle.entry_id.proofs.RunLaws.{run_none, run_more}
 use Rattle.canonical_form.proofs.scan.run_end.Given as goal
 
 -- `canonical_form::run_end` meets its contract. The loop's invariant: every byte so far passes. Assumes nothing.

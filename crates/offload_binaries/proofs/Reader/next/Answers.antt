@@ -1,5 +1,4 @@
 use Rattle.std.proofs.Common.{ap}
-use Rattle.offload_binary.specs.Reader.{next}
 use Rattle.offload_binaries.specs.Held.{answered, moved}
 use Rattle.offload_binaries.proofs.Reader.next.Goals as goal
 

@@ -1,9 +1,7 @@
-use borrow.Author.Tests.{not-true, not-false}
 use native.Mathlib.Omega.{arith}
-use Prim.Native.Nat.{◌+◌, ◌-◌}
+use Prim.Native.Nat.{◌+◌}
 use mathlib.Core.Path.{◌≡◌, refl, sym, ap, ◌∙◌}
 use mathlib.Core.Bool.{◌&&◌}
-use lib.ListN.{length}
 use Rattle.wire.specs.Lists.{every}
 use Rattle.entry_id.specs.Meaning.{feature}
 use Rattle.entry_id.specs.Scan.{part, pieces_at}

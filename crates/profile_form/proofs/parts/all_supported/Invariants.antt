@@ -1,14 +1,10 @@
-use borrow.Author.Tests.{not-true, not-false}
-use native.Mathlib.Omega.{arith}
-use Prim.Native.Nat.{◌+◌, ◌-◌}
-use mathlib.Core.Path.{◌≡◌, refl, sym, ap, ◌∙◌}
-use mathlib.Core.Bool.{◌&&◌}
+use Prim.Native.Nat.{◌-◌}
+use mathlib.Core.Path.{◌≡◌}
 use lib.ListN.{length}
 use Rattle.wire.specs.Lists.{every}
 use Rattle.entry_id.specs.Meaning.{feature}
-use Rattle.entry_id.specs.Scan.{part, pieces_at}
+use Rattle.entry_id.specs.Scan.{pieces_at}
 use Rattle.entry_id.specs.Profile.{supported}
-use Rattle.profile_form.proofs.SeekLaws.{every-next, every_end}
 use Rattle.profile_form.proofs.parts.all_supported.Given as goal
 
 -- `profile_form::all_supported` meets its contract. The loop's invariant: the pieces that are left decide. Assumes nothing.

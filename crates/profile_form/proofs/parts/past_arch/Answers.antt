@@ -3,7 +3,6 @@ use native.Mathlib.Omega.{arith}
 use Rattle.wire.specs.Bytes.{bytes}
 use Rattle.profile_form.specs.Parts.{past_arch}
 use Rattle.profile_form.proofs.SeekLaws.{begins-long}
-use borrow.Author.Rules.{rules}
 use Rattle.profile_form.proofs.parts.past_arch.Goals as goal
 
 -- `profile_form::past_arch` meets its contract. Assumes nothing.

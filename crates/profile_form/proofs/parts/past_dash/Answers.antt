@@ -1,6 +1,5 @@
 use native.Mathlib.Omega.{arith}
 use Rattle.profile_form.proofs.SeekLaws.{past-found, past_end}
-use borrow.Author.Rules.{rules}
 use Rattle.profile_form.proofs.parts.past_dash.Goals as goal
 
 -- `profile_form::past_dash` meets its contract. Assumes nothing.

@@ -3,7 +3,6 @@ use native.Mathlib.Omega.{arith}
 use lib.Seq.{length-take-le}
 use Rattle.profile_form.specs.Parts.{begins}
 use Rattle.profile_form.proofs.SeekLaws.{short-begins}
-use borrow.Author.Rules.{rules}
 use Rattle.profile_form.proofs.parts.starts.Goals as goal
 
 -- `profile_form::starts` meets its contract. Assumes nothing.

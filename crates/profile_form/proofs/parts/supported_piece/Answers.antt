@@ -5,7 +5,6 @@ use lib.Seq.{length-take-le}
 use Rattle.entry_id.specs.Meaning.{feature}
 use Rattle.entry_id.specs.Profile.{supported}
 use Rattle.profile_form.proofs.PartLaws.{no_piece}
-use borrow.Author.Rules.{rules}
 use Rattle.profile_form.proofs.parts.supported_piece.Goals as goal
 
 -- `profile_form::supported_piece` meets its contract. Assumes nothing.

@@ -6,7 +6,6 @@ use mathlib.Core.Path.{◌≡◌, ap}
 use native.Mathlib.Omega.{arith}
 use Rattle.profile_form.specs.Table.{table, name_at}
 use Rattle.profile_form.proofs.TableLaws.{table-length, size_small}
-use borrow.Author.Rules.{rules}
 use Rattle.profile_form.proofs.table.name_at.Goals as goal
 
 -- `profile_form::name_at` meets its contract. Assumes nothing.

@@ -11,7 +11,6 @@ use Rattle.entry_id.specs.Canonical.{head_number}
 use Rattle.entry_id.specs.Processors.{processors, names}
 use Rattle.profile_form.specs.Table.{mark, row_for, rows_for, rows_from, table, name_at, slot_of, placed, slots}
 use Rattle.profile_form.proofs.TableLaws.{slot-below, slot_in, row-found, row-none}
-use borrow.Author.Rules.{rules}
 use Rattle.profile_form.proofs.table.row_of.Goals as goal
 
 -- `profile_form::row_of` meets its contract. Assumes nothing.

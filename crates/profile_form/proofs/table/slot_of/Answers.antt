@@ -1,7 +1,6 @@
 use Prim.Native.Nat.{◌%◌}
 use mathlib.Core.Path.{ap}
 use Rattle.profile_form.specs.Table.{slot_of}
-use borrow.Author.Rules.{rules}
 use Rattle.profile_form.proofs.table.slot_of.Goals as goal
 
 -- `profile_form::slot_of` meets its contract. Assumes nothing.
