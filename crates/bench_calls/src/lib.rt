@@ -1,4 +1,6 @@
 // What `make bench` times and include/offload.h does not have, as C calls.
+#![tactic(auto)]
+
 ghost use Rattle.std.specs.Prelude.{◌≡◌, ◌++◌, length, drop};
 ghost use Rattle.wire.specs.Bytes.{before};
 ghost use Rattle.entry_id.specs.Canonical.{canonical_in};

@@ -1,9 +1,12 @@
-// The reader and both writers as C calls, for the comparison with the second program: include/offload.h has none of them.
+// The reader and both writers, each call giving numbers alone, for the comparison with the second program: `harness_c` exports them as C calls.
+// include/offload.h has none of them.
+#![tactic(auto)]
+
 ghost use Rattle.std.specs.Prelude.{◌≡◌, ◌%◌, length};
 ghost use Rattle.entry_id.specs.Rules.{id_rules};
 ghost use Rattle.bundle.specs.Writer.{write, written_to};
 ghost use Rattle.offload_binary.specs.Reader.{next};
-ghost use Rattle.offload_binary.specs.Writer.{write as writeBinary};
+ghost use Rattle.offload_binary.specs.Writer.{write as write_binary};
 ghost use Rattle.harness.specs.Fields.{field, bundle_field, binary_field, tags, step_numbers};
 
 use bundle::EntryRecord;
@@ -30,8 +33,7 @@ fn bundle_field(written: bundle::Written, k: usize) -> u64
 }
 
 // Writes a bundle, and returns one number of what the bundle writer returns.
-#[unsafe(no_mangle)]
-pub extern "C" fn offload_write_bundle_field(
+pub fn offload_write_bundle_field(
     records: &[EntryRecord],
     ids: &[u8],
     images: &[u8],
@@ -50,8 +52,7 @@ fn binary_field(written: offload_binary::Written, k: usize) -> u64
 }
 
 // Writes a binary, and returns one number of what the binary writer returns.
-#[unsafe(no_mangle)]
-pub extern "C" fn offload_write_binary_field(
+pub fn offload_write_binary_field(
     image_kind: u64,
     offload_kind: u64,
     flags: u32,
@@ -61,7 +62,7 @@ pub extern "C" fn offload_write_binary_field(
     out: &mut [u8],
     k: usize,
 ) -> u64
-    ensures { (result ≡ binary_field k (writeBinary (tags image_kind offload_kind flags) image.now pairs.now strings.now out.old).answer) × (out.new ≡ (writeBinary (tags image_kind offload_kind flags) image.now pairs.now strings.now out.old).out) }
+    ensures { (result ≡ binary_field k (write_binary (tags image_kind offload_kind flags) image.now pairs.now strings.now out.old).answer) × (out.new ≡ (write_binary (tags image_kind offload_kind flags) image.now pairs.now strings.now out.old).out) }
 {
     let tags = Tags {
         image_kind,
@@ -87,8 +88,7 @@ fn read_next(bytes: &[u8], cursor: Cursor) -> Step
 }
 
 // What a reader at this cursor answers next, with string pair i alone, and where the reader then stands.
-#[unsafe(no_mangle)]
-pub extern "C" fn offload_binaries_next(
+pub fn offload_binaries_next(
     binaries: &[u8],
     position: usize,
     taken: usize,

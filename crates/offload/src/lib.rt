@@ -1,4 +1,6 @@
 // The C calls. Each does the whole job and returns one number of the answer.
+#![tactic(auto)]
+
 mod amdgpu;
 mod binaries;
 

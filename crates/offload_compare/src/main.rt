@@ -1,7 +1,12 @@
 // offload-compare LEFT RIGHT: the report on the differences of the bundles in two files.
+#![tactic(auto)]
+
 ghost use Rattle.io.specs.Counts.{IsPrefixLen};
 
-use libc::STDOUT_FILENO;
+use std::env::Env;
+use std::io::Read;
+use std::rt::Files;
+use std::{fs, io};
 
 // One byte more than a bundle that is compared may have: so a longer file is told from one that fits.
 const ROOM: usize = 32769;
@@ -9,19 +14,36 @@ const ROOM: usize = 32769;
 // The most bytes in a report.
 const REPORT: usize = 33168;
 
+// A path of the system has fewer bytes.
+const PATH: usize = 4096;
+
+// The bytes of an open file, as far as there is room for them, it does not end and no read fails.
+fn read_full(file: &mut impl Read, bytes: &mut [u8]) -> usize
+    ensures { IsPrefixLen result bytes.new }
+{
+    let mut got = 0;
+    while got < bytes.len() {
+        match file.read(&mut bytes[got..]) {
+            Ok(0) | Err(_) => break,
+            Ok(n) => got += n,
+        }
+    }
+    got
+}
+
 // Whether a file that was read so far has come to its end, and has not failed.
-fn ended(fd: i32) -> bool {
+fn ended(file: &mut impl Read) -> bool {
     let mut more = [0u8; 1];
-    libc::read(fd, &mut more) == 0
+    matches!(file.read(&mut more), Ok(0))
 }
 
 // The bytes of an open file, as far as there is room for them; none where it cannot be read to its end.
-fn read_open(fd: i32, bytes: &mut [u8; ROOM]) -> usize
+fn read_open(file: &mut impl Read, bytes: &mut [u8; ROOM]) -> usize
     ensures { IsPrefixLen result bytes.new }
 {
-    let got = io::read_full(fd, bytes);
+    let got = read_full(file, bytes);
     if got < ROOM {
-        if !ended(fd) {
+        if !ended(file) {
             return 0;
         }
     }
@@ -29,29 +51,28 @@ fn read_open(fd: i32, bytes: &mut [u8; ROOM]) -> usize
 }
 
 // The bytes of the file that argument i names; none where there is no such argument, or the file cannot be read.
-fn read_file(i: usize, bytes: &mut [u8; ROOM]) -> usize
+fn read_file(rt: &(impl Env + Files), i: usize, bytes: &mut [u8; ROOM]) -> usize
     ensures { IsPrefixLen result bytes.new }
 {
-    let mut path = io::buffer();
-    let n = os::arg(i, &mut path);
-    if os::errno() != 0 {
+    let mut path = [0u8; PATH];
+    let Ok(n) = rt.arg(i, &mut path) else {
         return 0;
-    }
-    let fd = os::open_read(&path[..n]);
-    if fd < 0 {
+    };
+    let Ok(path) = str::from_utf8(&path[..n]) else {
         return 0;
-    }
-    let got = read_open(fd, bytes);
-    libc::close(fd);
-    got
+    };
+    let Ok(mut file) = fs::open(rt, path) else {
+        return 0;
+    };
+    read_open(&mut file, bytes)
 }
 
-fn main() {
+fn main(rt: HostRuntime) -> io::Result<()> {
     let mut left = [0u8; ROOM];
     let mut right = [0u8; ROOM];
     let mut text = [0u8; REPORT];
-    let n = read_file(1, &mut left);
-    let m = read_file(2, &mut right);
+    let n = read_file(&rt, 1, &mut left);
+    let m = read_file(&rt, 2, &mut right);
     let len = bundle_compare::compare(&left[..n], &right[..m], &mut text);
-    io::write_all(STDOUT_FILENO, &text[..len]);
+    rt.write_all(&text[..len])
 }

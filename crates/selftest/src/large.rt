@@ -1,7 +1,9 @@
 // Inputs that are too large to compute on in the prover: what the library answers is printed, and held to the file `stdout`.
-ghost use Rattle.std.specs.Prelude.{◌<◌};
+ghost use Rattle.std.specs.Prelude.{◌<◌, ◌≤◌, length, IfOk};
 
 use offload_binary::Part;
+use std::io;
+use std::io::Read;
 
 // A sum over the bytes that depends on their order.
 fn sum_of(s: &[u8]) -> u64 {
@@ -14,71 +16,77 @@ fn sum_of(s: &[u8]) -> u64 {
     sum
 }
 
-fn print(number: u64) {
-    io::write_all(1, b" ");
-    io::print_decimal(1, number);
+fn print(rt: &impl Print, number: u64) -> io::Result<()> {
+    print!(rt; " {number}")
 }
 
-fn print_check(bundle: &[u8]) {
+fn print_check(rt: &impl Print, bundle: &[u8]) -> io::Result<()> {
     let r = bundle_reader::check(bundle);
-    io::write_all(1, b"check");
-    print(r.number as u64);
-    print(r.place as u64);
-    print(r.count as u64);
-    io::write_all(1, b"\n");
+    print!(rt; "check")?;
+    print(rt, r.number as u64)?;
+    print(rt, r.place as u64)?;
+    print(rt, r.count as u64)?;
+    println!(rt)
 }
 
-fn print_pick(bundle: &[u8], device: &[u8]) {
+fn print_pick(rt: &impl Print, bundle: &[u8], device: &[u8]) -> io::Result<()> {
     let r = bundle_reader::pick(bundle, device);
-    io::write_all(1, b"pick");
-    print(r.number as u64);
-    print(r.place as u64);
-    print(r.index as u64);
-    print(r.position);
-    print(r.size);
-    io::write_all(1, b"\n");
+    print!(rt; "pick")?;
+    print(rt, r.number as u64)?;
+    print(rt, r.place as u64)?;
+    print(rt, r.index as u64)?;
+    print(rt, r.position)?;
+    print(rt, r.size)?;
+    println!(rt)
 }
 
-fn print_slot(slot: [u64; 4]) {
-    io::write_all(1, b"slot");
-    print(slot[0]);
-    print(slot[1]);
-    print(slot[2]);
-    print(slot[3]);
-    io::write_all(1, b"\n");
+fn print_slot(rt: &impl Print, slot: [u64; 4]) -> io::Result<()> {
+    print!(rt; "slot")?;
+    print(rt, slot[0])?;
+    print(rt, slot[1])?;
+    print(rt, slot[2])?;
+    print(rt, slot[3])?;
+    println!(rt)
 }
 
-fn print_slots(slots: &[[u64; 4]]) {
+fn print_slots(rt: &impl Print, slots: &[[u64; 4]]) -> io::Result<()> {
     let mut k: usize = 0;
     while k < slots.len() {
-        print_slot(slots[k]);
+        print_slot(rt, slots[k])?;
         k += 1;
     }
+    Ok(())
 }
 
 // The pick for each of several device names: what is returned, and the slots then.
-fn print_each(bundle: &[u8], buffer: &[u8], names: &[[u64; 2]], slots: &mut [[u64; 4]]) {
+fn print_each(
+    rt: &impl Print,
+    bundle: &[u8],
+    buffer: &[u8],
+    names: &[[u64; 2]],
+    slots: &mut [[u64; 4]],
+) -> io::Result<()> {
     let r = bundle_reader::pick_each(bundle, buffer, names, slots);
-    io::write_all(1, b"pick each");
-    print(r.number as u64);
-    print(r.place as u64);
-    print(r.slots as u64);
-    print(r.word);
-    print(r.taken as u64);
-    io::write_all(1, b"\n");
-    print_slots(slots);
+    print!(rt; "pick each")?;
+    print(rt, r.number as u64)?;
+    print(rt, r.place as u64)?;
+    print(rt, r.slots as u64)?;
+    print(rt, r.word)?;
+    print(rt, r.taken as u64)?;
+    println!(rt)?;
+    print_slots(rt, slots)
 }
 
 // Normalises into `out`: what is returned, and the sum of the output then.
-fn print_normal(bundle: &[u8], out: &mut [u8]) -> usize {
+fn print_normal(rt: &impl Print, bundle: &[u8], out: &mut [u8]) -> io::Result<usize> {
     let r = normal_form::normalise(bundle, out);
-    io::write_all(1, b"normalise");
-    print(r.number as u64);
-    print(r.place as u64);
-    print(r.length as u64);
-    print(sum_of(out));
-    io::write_all(1, b"\n");
-    r.length
+    print!(rt; "normalise")?;
+    print(rt, r.number as u64)?;
+    print(rt, r.place as u64)?;
+    print(rt, r.length as u64)?;
+    print(rt, sum_of(out))?;
+    println!(rt)?;
+    Ok(r.length)
 }
 
 // Entry i of 64, in falling order of their IDs: `host-a-b-c63` to `host-a-b-c00`, each with an image of one byte, the last of its ID.
@@ -108,23 +116,24 @@ fn put_entries(out: &mut [u8]) {
 }
 
 // "Count 64 with a whole table is read; 65 is COUNT."
-pub(crate) fn sixty_four() {
+pub(crate) fn sixty_four(rt: &impl Print) -> io::Result<()> {
     let mut bundle = [b'.'; 2400];
     wire_copy::copy_at(&mut bundle, 0, b"__CLANG_OFFLOAD_BUNDLE__");
     wire_write::put_word8(&mut bundle, 24, 64);
     put_entries(&mut bundle);
-    print_check(&bundle);
-    print_normal(&bundle, &mut [b'.'; 2530]);
-    print_pick(&bundle, b"host-a-b-c17");
+    print_check(rt, &bundle)?;
+    print_normal(rt, &bundle, &mut [b'.'; 2530])?;
+    print_pick(rt, &bundle, b"host-a-b-c17")?;
     // the first entry and the last
     print_each(
+        rt,
         &bundle,
         b"host-a-b-c63host-a-b-c00host-a-b-c64",
         &[[0, 12], [12, 12], [24, 12]],
         &mut [[1, 2, 3, 4]; 4],
-    );
+    )?;
     wire_write::put_word8(&mut bundle, 24, 65);
-    print_check(&bundle);
+    print_check(rt, &bundle)
 }
 
 // 65 binaries of 72 bytes, each behind a byte that is none.
@@ -142,34 +151,49 @@ fn put_binaries(out: &mut [u8]) {
 }
 
 // "A 65th found binary gives 18 with its first byte as place"
-pub(crate) fn sixty_five() {
+pub(crate) fn sixty_five(rt: &impl Print) -> io::Result<()> {
     let mut binaries = [b'.'; 4745];
     put_binaries(&mut binaries);
     let r = offload_binary_recovery::recover(&binaries, &mut [b'.'; 1], &mut [[1, 2]; 1]);
-    io::write_all(1, b"recover");
-    print(r.number as u64);
-    print(r.place as u64);
-    print(r.length as u64);
-    print(r.spans as u64);
-    io::write_all(1, b"\n");
+    print!(rt; "recover")?;
+    print(rt, r.number as u64)?;
+    print(rt, r.place as u64)?;
+    print(rt, r.length as u64)?;
+    print(rt, r.spans as u64)?;
+    println!(rt)
+}
+
+// Reads until `buf` is full or the input ends, and returns how many bytes that gave.
+fn read_full(input: &mut impl Read, buf: &mut [u8]) -> io::Result<usize>
+    ensures { IfOk result (λ n. n ≤ length buf.new) }
+{
+    let mut done = 0;
+    while done < buf.len() {
+        let n = input.read(&mut buf[done..])?;
+        if n == 0 {
+            break;
+        }
+        done += n;
+    }
+    Ok(done)
 }
 
 // A real bundle by LLVM, on standard input: samples/bundles/five-fields.bundle.
-pub(crate) fn real_bundle() {
+pub(crate) fn real_bundle(rt: &(impl Print + Input)) -> io::Result<()> {
     let mut buffer = [0u8; 8192];
-    let n = io::read_full(0, &mut buffer);
+    let n = read_full(&mut rt.reader(), &mut buffer)?;
     let bundle = &buffer[..n];
-    print_check(bundle);
+    print_check(rt, bundle)?;
     let mut out = [b'.'; 6640];
-    let length = print_normal(bundle, &mut out);
+    let length = print_normal(rt, bundle, &mut out)?;
     let written = Part {
         start: 0,
         len: length,
     };
     let normal = offload_binary_parts::bytes_at(&out, written);
-    print_normal(normal, &mut [b'.'; 6640]);
-    print_pick(bundle, b"hip-amdgcn-amd-amdhsa--gfx906:sramecc+:xnack+");
-    print_pick(bundle, b"hip-amdgcn-amd-amdhsa--gfx906");
+    print_normal(rt, normal, &mut [b'.'; 6640])?;
+    print_pick(rt, bundle, b"hip-amdgcn-amd-amdhsa--gfx906:sramecc+:xnack+")?;
+    print_pick(rt, bundle, b"hip-amdgcn-amd-amdhsa--gfx906")
 }
 
 fn fill(s: &mut [u8]) {
@@ -181,12 +205,12 @@ fn fill(s: &mut [u8]) {
 }
 
 // A copy of 20,000 bytes: in more than one part.
-pub(crate) fn long_copy() {
+pub(crate) fn long_copy(rt: &impl Print) -> io::Result<()> {
     let mut src = [0u8; 20000];
     fill(&mut src);
     let mut out = [b'.'; 20002];
     wire_copy::copy_at(&mut out, 1, &src);
-    io::write_all(1, b"copy");
-    print(sum_of(&out));
-    io::write_all(1, b"\n");
+    print!(rt; "copy")?;
+    print(rt, sum_of(&out))?;
+    println!(rt)
 }

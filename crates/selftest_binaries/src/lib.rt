@@ -1,5 +1,7 @@
 // Cases of `selftest`: offload binaries, on small inputs.
 // What a case expects is a theorem: `expect_..` asks that the definitions give it, and holds what runs to it.
+#![tactic(auto)]
+
 mod binaries;
 mod binary_writer;
 mod recovery;

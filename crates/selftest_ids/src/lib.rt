@@ -1,5 +1,7 @@
 // Cases of `selftest`: bytes and entry IDs, on small inputs.
 // What a case expects is a theorem: `expect_..` asks that the definitions give it, and holds what runs to it.
+#![tactic(auto)]
+
 mod ids;
 mod words;
 

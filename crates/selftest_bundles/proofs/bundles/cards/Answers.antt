@@ -1,0 +1,28 @@
+-- The definitions give what each case of `cards` expects, by computation.
+use Rattle.std.proofs.Common.{refl}
+use Rattle.selftest_bundles.proofs.Computing as computing
+use Rattle.selftest_bundles.proofs.bundles.cards.Goals as goal
+
+pub expect_check_by-requires : goal.expect_check_by-requires
+unfolding computing.bundles
+expect_check_by-requires c = refl
+
+pub expect_check-requires : goal.expect_check-requires
+unfolding computing.bundles
+expect_check-requires c = refl
+
+pub expect_check_by-requires-2 : goal.expect_check_by-requires-2
+unfolding computing.bundles
+expect_check_by-requires-2 c = refl
+
+pub expect_check-requires-2 : goal.expect_check-requires-2
+unfolding computing.bundles
+expect_check-requires-2 c = refl
+
+pub expect_check_by-requires-3 : goal.expect_check_by-requires-3
+unfolding computing.bundles
+expect_check_by-requires-3 c = refl
+
+pub expect_check-requires-3 : goal.expect_check-requires-3
+unfolding computing.bundles
+expect_check-requires-3 c = refl

@@ -1,0 +1,12 @@
+-- The definitions give what each case of `cards_not_asked` expects, by computation.
+use Rattle.std.proofs.Common.{refl}
+use Rattle.selftest_bundles.proofs.Computing as computing
+use Rattle.selftest_bundles.proofs.bundles.cards_not_asked.Goals as goal
+
+pub expect_pick_by-requires : goal.expect_pick_by-requires
+unfolding computing.bundles
+expect_pick_by-requires c = refl
+
+pub expect_pick-requires : goal.expect_pick-requires
+unfolding computing.bundles
+expect_pick-requires c = refl

@@ -1,0 +1,8 @@
+-- The definitions give what each case of `kinds_normal` expects, by computation.
+use Rattle.std.proofs.Common.{refl}
+use Rattle.selftest_bundles.proofs.Computing as computing
+use Rattle.selftest_bundles.proofs.bundles.kinds_normal.Goals as goal
+
+pub expect_normalise-requires : goal.expect_normalise-requires
+unfolding computing.bundles
+expect_normalise-requires c = (refl, refl)

@@ -1,0 +1,13 @@
+-- The definitions give what each case of `side_by_side` expects, by computation.
+use Rattle.std.proofs.Common.{refl}
+use Rattle.selftest_bundles.proofs.Computing as computing
+use Rattle.selftest_bundles.proofs.EachCase.{answered}
+use Rattle.selftest_bundles.proofs.each.side_by_side.Goals as goal
+
+pub expect_each-requires : goal.expect_each-requires
+unfolding computing.each
+expect_each-requires c = (answered _ _ _ _ _ refl, refl)
+
+pub expect_each-requires-2 : goal.expect_each-requires-2
+unfolding computing.each
+expect_each-requires-2 c = (answered _ _ _ _ _ refl, refl)
