@@ -1,7 +1,8 @@
 // offload-compare LEFT RIGHT: the report on the differences of the bundles in two files.
 #![tactic(auto)]
 
-ghost use Rattle.std.specs.Prelude.{◌≤◌, length};
+ghost use Rattle.std.specs.Prelude.{◌≡◌, ◌<◌, ◌≤◌, length, take, IfSome, IsTrue};
+ghost use Rattle.std.specs.Io.KnownBytes.{Consumes, IsAtEnd};
 
 use std::env::Env;
 use std::fs::OpenOptions;
@@ -19,8 +20,9 @@ const REPORT: usize = 33168;
 const PATH: usize = 4096;
 
 // The bytes of an open file, as far as there is room for them, it does not end and no read fails.
-fn read_full(file: &mut impl Read, bytes: &mut [u8]) -> usize
-    ensures { result ≤ length bytes.new }
+fn read_full<R: Read>(file: &mut R, bytes: &mut [u8]) -> usize
+    ensures bound { result ≤ length bytes.new }
+    ensures given { Consumes (R.remaining file.old) (R.remaining file.new) (take result bytes.new) }
 {
     let mut got = 0;
     while got < bytes.len() {
@@ -33,14 +35,18 @@ fn read_full(file: &mut impl Read, bytes: &mut [u8]) -> usize
 }
 
 // Whether a file that was read so far has come to its end, and has not failed.
-fn ended(file: &mut impl Read) -> bool {
+fn ended<R: Read>(file: &mut R) -> bool
+    ensures { IsTrue result → IsAtEnd (R.remaining file.old) }
+{
     let mut more = [0u8; 1];
     matches!(file.read(&mut more), Ok(0))
 }
 
 // The bytes of an open file, as far as there is room for them; none where it cannot be read to its end.
-fn read_open(file: &mut impl Read, bytes: &mut [u8; ROOM]) -> usize
-    ensures { result ≤ length bytes.new }
+fn read_open<R: Read>(file: &mut R, bytes: &mut [u8; ROOM]) -> usize
+    ensures bound { result ≤ length bytes.new }
+    ensures front { IfSome (R.remaining file.old) (λ xs. take result bytes.new ≡ take result xs) }
+    ensures whole { IfSome (R.remaining file.old) (λ xs. 0 < result → result < ROOM → take result bytes.new ≡ xs) }
 {
     let got = read_full(file, bytes);
     if got < ROOM {
