@@ -56,7 +56,7 @@ uninstall:
 
 ##   make clean         removes all that was made here
 clean:
-	rm -rf target second/target bench/target
+	rm -rf target second/target bench/target crates/*/out
 
 ##   make help          these lines
 help:
@@ -100,11 +100,12 @@ stack: target/stack
 compare: tools $(LIBRARY) $(HARNESS)
 	$(CARGO) run --release $(SECOND) --bin compare
 
-##   make selftest      the library as the interpreter and the compiler run it, in four ways
+##   make selftest      the library compiled with checks, and on an interpreter what reads nothing; `make test` runs it as two compilers build it too
 selftest:
 	@scripts/need.sh rt
 	cmp crates/selftest/stdin samples/bundles/five-fields.bundle
-	rt try selftest
+	tests/selftest.sh selftest 1
+	tests/selftest.sh selftest_cases 2
 
 ##   make second-test   the second program's own tests
 second-test: tools
@@ -166,17 +167,20 @@ quoted = '$(subst ','\'',$(1))'
 # What a library or a program is made of: the files of its crates, and the folders, which change when a file goes.
 sources = crates.txt $(shell find $$(scripts/crates.sh $(1) | sed 's|.*|crates/&/src crates/&/specs crates/&/proofs|') 2>&1 | grep -v '^find:')
 
+$(LIBRARY): CRATE = offload
 $(LIBRARY): $(call sources,offload)
-$(HARNESS): $(call sources,harness)
+$(HARNESS): CRATE = harness_c
+$(HARNESS): $(call sources,harness_c)
+$(BENCH_CALLS): CRATE = bench_calls
 $(BENCH_CALLS): $(call sources,bench_calls)
 # A program is compiled later, and its compiler must not turn out to be missing then.
 target/staticlib/lib%.a:
 	@scripts/need.sh rt $(firstword $(CC))
-	@scripts/prove.sh $*
+	@scripts/prove.sh $(CRATE) $@
 
 $(PROGRAM): $(call sources,offload_compare)
 	@scripts/need.sh rt
-	@scripts/prove.sh $(notdir $@)
+	@scripts/prove.sh offload_compare $@
 
 # What was compiled by another compiler, or with other flags, is compiled again.
 FLAGS := $(CC) $(CXX) $(WARNINGS) $(CPPFLAGS) $(CFLAGS) $(CXXFLAGS) $(LDFLAGS) $(LDLIBS)

@@ -3,7 +3,8 @@
 set -euo pipefail
 cd "$(dirname "$0")/.."
 declare -A rests seen
-while IFS=: read -r crate list; do rests[$crate]=$list; done < <(sed 's/#.*//; /:/!d' crates.txt)
+# A line is NAME: LIBRARY .., or NAME staticlib: LIBRARY ..
+while IFS=: read -r crate list; do rests[${crate%% *}]=$list; done < <(sed 's/#.*//; /:/!d' crates.txt)
 
 # Crates of the kit are not listed, and passed over.
 visit() {

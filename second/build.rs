@@ -1,4 +1,4 @@
-//! Where `compare` finds the archives of `rt staticlib`: in the repository's target folder.
+//! Where `compare` finds the archives that `make` has built by `rt lib`: in the repository's target folder.
 
 use std::env;
 use std::path::Path;

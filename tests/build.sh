@@ -1,7 +1,8 @@
 #!/usr/bin/env bash
 # Builds in a folder with a space in its name, without .git: once, and again only what a change calls for. What is missing is said before anything is
 # tried: tests/build.sh. A program of this test stands for `rt`, and takes the libraries from target/staticlib, the program from target/bin. As `rt` does,
-# it leaves a program alone that it has proved before, where no file says otherwise: here that is the stamp.
+# it works in a crate's folder, leaves what it compiles in out/, runs a program too, and leaves one alone that it has compiled before, where no file says
+# otherwise: here that is the stamp.
 set -euo pipefail
 unset MAKEFLAGS MAKELEVEL # of the `make` that runs this
 cd "$(dirname "$0")/.."
@@ -10,18 +11,25 @@ trap 'rm -rf "$folder"' EXIT
 tried=0
 wrong=0
 mkdir "$folder"/{programs,user,root} "$folder/a station"
-cp -R --parents Makefile scripts tool include examples samples tests crates crates.txt "$folder/a station"
+tar -c --exclude='crates/*/out' Makefile scripts tool include examples samples tests crates crates.txt | tar -xC "$folder/a station"
 cat >"$folder/programs/rt" <<TEXT
 #!/usr/bin/env bash
 set -eu
-case \$1 in
-  check)
-    printf 'rt: %s proved (1 s)\n' "\${@:2}"
-    program=\${*: -1}
-    [[ -e crates/\$program/src/main.rt && ! -e target/stamp/\$program ]] || exit 0
-    mkdir -p target/bin target/stamp && cp $(printf %q "$PWD")/target/bin/\$program target/bin && touch target/stamp/\$program
+crate=\$(basename "\$PWD")
+mkdir -p out
+[[ \$crate != "\${REFUSED-}" ]] || { echo 'logic=not-proved'; exit 1; }
+case "\$*" in
+  lib)
+    [[ ! -e src/main.rt ]]
+    echo "logic=proved in \$PWD"
+    ! grep -q "^\$crate staticlib:" ../../crates.txt || cp $(printf %q "$PWD")/target/staticlib/lib\$crate.a out
     ;;
-  staticlib) mkdir -p target/staticlib && cp $(printf %q "$PWD")/target/staticlib/lib\$2.a target/staticlib && echo "rt: target/staticlib/lib\$2.a has it" ;;
+  run)
+    [[ -e out/\$crate.stamp ]] || cp $(printf %q "$PWD")/target/bin/\$crate out
+    touch out/\$crate.stamp
+    out/\$crate
+    ;;
+  *) exit 2 ;;
 esac
 TEXT
 echo 'echo 1000' >"$folder/user/id"
@@ -77,6 +85,13 @@ for file in crates/wire/src/lib.rt crates/offload/proofs crates.txt; do
   touch "$file"
   expect 0 "$proves" make tool
 done
+# What is not proved, the library or what it rests on, is not built, and all that was said is shown.
+for crate in entry_id offload; do
+  touch crates/wire/src/lib.rt
+  expect 2 '^logic=not-proved$' env REFUSED=$crate make tool
+  grep -q ": $crate NOT PROVED$" said || fail "$crate: not named"
+  expect 0 "$proves" make tool
+done
 # Crates that the library does not rest on, and edits.
 touch crates/examples/src/lib.rt crates/wire/must-fail/*
 expect 0 "$idle" make tool
@@ -95,12 +110,19 @@ done
 rm target/bin/offload_compare
 expect 0 "$proves_program" make program
 [[ -x target/bin/offload_compare ]] || fail 'no program'
+touch crates.txt
+expect 2 ': offload_compare NOT PROVED$' env REFUSED=offload_compare make program
+# One that does not print what its crate says.
+echo more >>crates/offload_compare/stdout
+expect 2 ': offload_compare NOT PROVED$' make program
+sed -i '$d' crates/offload_compare/stdout
+expect 0 "$proves_program" make program
 expect 0 '' make install PREFIX="$folder/installed"
 cmp target/bin/offload_compare "$folder/installed/bin/offload-compare" || fail 'the program is not installed'
 expect 0 '^Next:' make demo
 expect 0 '  make clean  ' make help
 expect 0 '' make clean
-[[ ! -e target ]] || fail 'make clean leaves something'
+[[ ! -e target && ! -e crates/offload/out ]] || fail 'make clean leaves something'
 
 [[ $wrong == 0 ]] && echo "build: $tried ends as expected"
 exit $wrong

@@ -1,16 +1,16 @@
 #!/usr/bin/env bash
 # The gate. Its last line is the verdict, `N passed, M failed`, and its exit status is 0 only if nothing failed. What counts: each crate and each
-# must-fail edit, as `rt ci` counts them, and each other part as one. A part that could not run has failed.
+# must-fail edit, as `rt ci` counts them, each edit that it could not try as failed, and each other part as one. A part that could not run has failed.
 #
-# The parts run side by side, so that two processors have work: `rt ci`, which takes longest; beside it what needs no proof; and what runs on the
-# library, and on the program, once `rt ci` has proved these. They give way to `rt ci`, and fill the time in which it waits for the last of a group.
+# First `rt ci`, which takes longest, and beside it, giving way to it, what needs no proof. Then what runs on the library, and on the program, if `rt ci`
+# has proved these: any other proof in this folder waits until `rt ci` ends.
 # shellcheck disable=SC2317 # what a trap calls
 set -uo pipefail
 unset MAKEFLAGS MAKELEVEL # of the `make` that runs this
 cd "$(dirname "$0")/.." || exit 2
 
-parts=(format rt-ci second-test gate-test selftest library compare calls stack example tool-test order profile damage program-test install-test build-test)
-kept=$(mktemp -d) || exit 2 # `rt ci` removes target/
+parts=(rt-ci second-test gate-test selftest library compare calls stack example tool-test order profile damage program-test install-test build-test)
+kept=$(mktemp -d) || exit 2
 crates=$(scripts/crates.sh | wc -l)
 edits=$(find crates -path '*/must-fail/*.edit' | wc -l)
 
@@ -35,39 +35,54 @@ without_proof() {
   make_parts second-test selftest gate-test
 }
 
-# Waits until `rt ci` has proved a crate; 1 where it ended without.
+# Whether `rt ci`, which has ended, has proved these crates, now or in an earlier run.
 proved() {
-  until grep -qs "^rt: $1 proved" "$kept/rt-ci.log" || [[ -e $kept/rt-ci.status ]]; do sleep 1; done
-  grep -qs "^rt: $1 proved" "$kept/rt-ci.log"
+  local crate
+  for crate; do grep -qE "^rt: $crate (proved\$|is kept: )" "$kept/rt-ci.log" || return; done
 }
 
 on_the_library() {
-  proved offload && proved harness && proved bench_calls && part library nice -n 5 make harness tool || return
+  proved offload harness_c bench_calls || return
+  rm -rf target/staticlib # what was built before
+  part library make harness tool || return
   make_parts compare &
   make_parts calls stack example tool-test order profile
-  part damage nice -n 5 make damage DAMAGED=500 LLVM=
+  part damage make damage DAMAGED=500 LLVM=
   on_the_program
   wait
 }
 
-# `rt ci` has linked the program when it says that it is proved, and `make` takes it as it is: target/bin has it, newer than its sources.
+# The program is the one that `rt ci` has proved, built and run: `make` takes it as it is, newer than its sources.
 on_the_program() {
-  proved offload_compare && make_parts program-test install-test build-test
+  proved offload_compare && install -D {crates/offload_compare/out,target/bin}/offload_compare || return
+  make_parts program-test install-test build-test
+}
+
+on_a_proof() {
+  part rt-ci rt ci
+  on_the_library
 }
 
 passed=0
 failed=0
 unfinished=()
 
-# Adds up a part that has ended, and shows what it said where it failed. `rt ci` counts for itself: without its verdict, one has failed.
+# What `rt ci` says last but one if all is well. It leaves out of its verdict the must-fail edits that it could not try: `, N bad` in this line.
+ok() {
+  grep '^rt: ok;' "$kept/rt-ci.log" | tail -n 1
+}
+
+# Adds up a part that has ended, and shows what it said where it failed. `rt ci` counts for itself: without its verdict, or that line, one has failed.
 add_up() {
-  local name=$1 status before=$failed
+  local name=$1 status before=$failed bad=' refused[^;]*, ([0-9]+) bad'
   status=$(<"$kept/$name.status")
   if [[ $name != rt-ci ]]; then
     [[ $status != 0 ]] || passed=$((passed + 1))
   elif [[ $(tail -n 1 "$kept/rt-ci.log") =~ ^([0-9]+)\ passed,\ ([0-9]+)\ failed$ ]]; then
     passed=$((passed + BASH_REMATCH[1]))
     failed=$((failed + BASH_REMATCH[2]))
+    [[ ! $(ok) =~ $bad ]] || failed=$((failed + BASH_REMATCH[1]))
+    [[ -n $(ok) ]] || status=none
   else
     status=none
   fi
@@ -101,12 +116,9 @@ trap 'exit 130' INT
 trap 'exit 143' TERM
 
 scripts/need.sh make && make tools || exit 2
-part format rt fmt --check
 set -m # each lane is a process group, and can be ended whole
-# Five jobs: as many as the largest level of crates has, since `rt ci` waits for the last of a group; more only take longer each.
-part rt-ci env RT_JOBS=5 rt ci &
+on_a_proof &
 without_proof &
-on_the_library &
 set +m
 wait
 exit 0

@@ -1,12 +1,13 @@
 // offload-compare LEFT RIGHT: the report on the differences of the bundles in two files.
 #![tactic(auto)]
 
-ghost use Rattle.io.specs.Counts.{IsPrefixLen};
+ghost use Rattle.std.specs.Prelude.{◌≤◌, length};
 
 use std::env::Env;
+use std::fs::OpenOptions;
+use std::io;
 use std::io::Read;
 use std::rt::Files;
-use std::{fs, io};
 
 // One byte more than a bundle that is compared may have: so a longer file is told from one that fits.
 const ROOM: usize = 32769;
@@ -19,7 +20,7 @@ const PATH: usize = 4096;
 
 // The bytes of an open file, as far as there is room for them, it does not end and no read fails.
 fn read_full(file: &mut impl Read, bytes: &mut [u8]) -> usize
-    ensures { IsPrefixLen result bytes.new }
+    ensures { result ≤ length bytes.new }
 {
     let mut got = 0;
     while got < bytes.len() {
@@ -39,7 +40,7 @@ fn ended(file: &mut impl Read) -> bool {
 
 // The bytes of an open file, as far as there is room for them; none where it cannot be read to its end.
 fn read_open(file: &mut impl Read, bytes: &mut [u8; ROOM]) -> usize
-    ensures { IsPrefixLen result bytes.new }
+    ensures { result ≤ length bytes.new }
 {
     let got = read_full(file, bytes);
     if got < ROOM {
@@ -51,8 +52,8 @@ fn read_open(file: &mut impl Read, bytes: &mut [u8; ROOM]) -> usize
 }
 
 // The bytes of the file that argument i names; none where there is no such argument, or the file cannot be read.
-fn read_file(rt: &(impl Env + Files), i: usize, bytes: &mut [u8; ROOM]) -> usize
-    ensures { IsPrefixLen result bytes.new }
+fn read_file(rt: &HostRuntime, i: usize, bytes: &mut [u8; ROOM]) -> usize
+    ensures { result ≤ length bytes.new }
 {
     let mut path = [0u8; PATH];
     let Ok(n) = rt.arg(i, &mut path) else {
@@ -61,7 +62,9 @@ fn read_file(rt: &(impl Env + Files), i: usize, bytes: &mut [u8; ROOM]) -> usize
     let Ok(path) = str::from_utf8(&path[..n]) else {
         return 0;
     };
-    let Ok(mut file) = fs::open(rt, path) else {
+    let mut options = OpenOptions::new();
+    options.read(true);
+    let Ok(mut file) = rt.open_file(&options, path) else {
         return 0;
     };
     read_open(&mut file, bytes)

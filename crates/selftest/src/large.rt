@@ -8,10 +8,8 @@ use std::io::Read;
 // A sum over the bytes that depends on their order.
 fn sum_of(s: &[u8]) -> u64 {
     let mut sum: u64 = 1;
-    let mut i = 0;
-    while i < s.len() {
-        sum = (sum * 31 + s[i] as u64) % 4294967291;
-        i += 1;
+    for byte in s {
+        sum = (sum * 31 + u64::from(*byte)) % 4294967291;
     }
     sum
 }
@@ -50,10 +48,8 @@ fn print_slot(rt: &impl Print, slot: [u64; 4]) -> io::Result<()> {
 }
 
 fn print_slots(rt: &impl Print, slots: &[[u64; 4]]) -> io::Result<()> {
-    let mut k: usize = 0;
-    while k < slots.len() {
-        print_slot(rt, slots[k])?;
-        k += 1;
+    for slot in slots {
+        print_slot(rt, *slot)?;
     }
     Ok(())
 }
@@ -108,10 +104,8 @@ fn put_entry(out: &mut [u8], i: usize)
 }
 
 fn put_entries(out: &mut [u8]) {
-    let mut i = 0;
-    while i < 64 {
+    for i in 0..64 {
         put_entry(out, i);
-        i += 1;
     }
 }
 
@@ -138,15 +132,13 @@ pub(crate) fn sixty_four(rt: &impl Print) -> io::Result<()> {
 
 // 65 binaries of 72 bytes, each behind a byte that is none.
 fn put_binaries(out: &mut [u8]) {
-    let mut i = 0;
-    while i < 65 {
+    for i in 0..65 {
         wire_copy::copy_at(
             out,
             73 * i + 1,
             b"\x10\xff\x10\xad\x01\0\0\0\x48\0\0\0\0\0\0\0\x20\0\0\0\0\0\0\0\x28\0\0\0\0\0\0\0\
             \0\0\0\0\0\0\0\0\x48\0\0\0\0\0\0\0\0\0\0\0\0\0\0\0\x48\0\0\0\0\0\0\0\0\0\0\0\0\0\0\0",
         );
-        i += 1;
     }
 }
 
@@ -197,10 +189,8 @@ pub(crate) fn real_bundle(rt: &(impl Print + Input)) -> io::Result<()> {
 }
 
 fn fill(s: &mut [u8]) {
-    let mut i = 0;
-    while i < s.len() {
-        s[i] = (i % 251) as u8;
-        i += 1;
+    for (i, byte) in s.iter_mut().enumerate() {
+        *byte = (i % 251) as u8;
     }
 }
 
