@@ -245,11 +245,16 @@ prints 'differences 0' link file
 prints 'differences 0' "$PWD/file" ./link
 prints 'refused left 2' lost file
 prints 'refused right 2' file loop
-name=$'a \n"\xff'
+name=$'a \n"\xc3\xbf'
 cp file "$name"
 cp file ./--json
 prints 'differences 0' "$name" --json
 rm "$name" ./--json
+# A name that is not UTF-8.
+name=$'\xff'
+cp file "$name"
+prints 'refused left 2' "$name" file
+rm "$name"
 # More arguments are not looked at.
 one another >other
 prints 'differences 0' file file other
