@@ -110,6 +110,7 @@ done
 rm target/bin/offload_compare
 expect 0 "$proves_program" make program
 [[ -x target/bin/offload_compare ]] || fail 'no program'
+expect 0 "$idle" make program
 touch crates.txt
 expect 2 ': offload_compare NOT PROVED$' env REFUSED=offload_compare make program
 # One that does not print what its crate says.

@@ -108,7 +108,7 @@ fn compatible_from(entry: &[u8], device: &[u8], n: usize) -> bool
 }
 
 // How two entries stand to each other: the same meaning; equal heads and other feature names.
-#[derive(Drop)]
+#[derive(Clone, Copy)]
 pub struct Relation {
     pub same: bool,
     pub mixed: bool,
@@ -154,7 +154,7 @@ fn compared_kind(kind: &[u8]) -> &[u8]
 }
 
 // Two texts cut behind their kinds: where, and whether the kinds are compared as one.
-#[derive(Drop)]
+#[derive(Clone, Copy)]
 struct Cut {
     a: usize,
     b: usize,

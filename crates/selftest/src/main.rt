@@ -2,16 +2,14 @@
 // which no proof covers, are held to the definitions. A case is a call of an `expect_..` in the library of its subject; it is proved by computation.
 #![tactic(auto)]
 
-mod large;
-
 use std::io;
 
 fn main(rt: HostRuntime) -> io::Result<()> {
     selftest_ids::run();
     selftest_bundles::run();
     selftest_binaries::run();
-    large::long_copy(&rt)?;
-    large::sixty_four(&rt)?;
-    large::sixty_five(&rt)?;
-    large::real_bundle(&rt)
+    selftest_large::long_copy(&rt)?;
+    selftest_large::sixty_four(&rt)?;
+    selftest_large::sixty_five(&rt)?;
+    selftest_large::real_bundle(&rt)
 }

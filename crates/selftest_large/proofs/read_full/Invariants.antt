@@ -1,5 +1,5 @@
 use Rattle.std.proofs.Common.{◌≤◌, ◌-◌, length}
-use Rattle.selftest.proofs.large.read_full.Given as goal
+use Rattle.selftest_large.proofs.read_full.Given as goal
 
 -- what was read has room
 abbrev pub invariant-loop-done : goal.invariant-loop-done

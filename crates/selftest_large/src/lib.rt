@@ -1,4 +1,6 @@
 // Inputs that are too large to compute on in the prover: what the library answers is printed, and held to the file `stdout`.
+#![tactic(auto)]
+
 ghost use Rattle.std.specs.Prelude.{◌<◌, ◌≤◌, length, IfOk};
 
 use offload_binary::Part;
@@ -110,7 +112,7 @@ fn put_entries(out: &mut [u8]) {
 }
 
 // "Count 64 with a whole table is read; 65 is COUNT."
-pub(crate) fn sixty_four(rt: &impl Print) -> io::Result<()> {
+pub fn sixty_four(rt: &impl Print) -> io::Result<()> {
     let mut bundle = [b'.'; 2400];
     wire_copy::copy_at(&mut bundle, 0, b"__CLANG_OFFLOAD_BUNDLE__");
     wire_write::put_word8(&mut bundle, 24, 64);
@@ -143,7 +145,7 @@ fn put_binaries(out: &mut [u8]) {
 }
 
 // "A 65th found binary gives 18 with its first byte as place"
-pub(crate) fn sixty_five(rt: &impl Print) -> io::Result<()> {
+pub fn sixty_five(rt: &impl Print) -> io::Result<()> {
     let mut binaries = [b'.'; 4745];
     put_binaries(&mut binaries);
     let r = offload_binary_recovery::recover(&binaries, &mut [b'.'; 1], &mut [[1, 2]; 1]);
@@ -171,7 +173,7 @@ fn read_full(input: &mut impl Read, buf: &mut [u8]) -> io::Result<usize>
 }
 
 // A real bundle by LLVM, on standard input: samples/bundles/five-fields.bundle.
-pub(crate) fn real_bundle(rt: &(impl Print + Input)) -> io::Result<()> {
+pub fn real_bundle(rt: &(impl Print + Input)) -> io::Result<()> {
     let mut buffer = [0u8; 8192];
     let n = read_full(&mut rt.reader(), &mut buffer)?;
     let bundle = &buffer[..n];
@@ -195,7 +197,7 @@ fn fill(s: &mut [u8]) {
 }
 
 // A copy of 20,000 bytes: in more than one part.
-pub(crate) fn long_copy(rt: &impl Print) -> io::Result<()> {
+pub fn long_copy(rt: &impl Print) -> io::Result<()> {
     let mut src = [0u8; 20000];
     fill(&mut src);
     let mut out = [b'.'; 20002];

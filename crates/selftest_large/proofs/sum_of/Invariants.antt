@@ -1,5 +1,5 @@
 use Rattle.std.proofs.Common.{◌<◌}
-use Rattle.selftest.proofs.large.sum_of.Given as goal
+use Rattle.selftest_large.proofs.sum_of.Given as goal
 
 -- the sum is below the number that it is reduced by
 abbrev pub invariant-loop-byte : goal.invariant-loop-byte
