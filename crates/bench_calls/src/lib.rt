@@ -22,7 +22,10 @@ pub extern "C" fn offload_canonical_length(id: &[u8], out: &mut [u8]) -> u64
     ensures value { result ≡ length (canonical_in (length out.old) id.now) }
     ensures out_after { out.new ≡ canonical_in (length out.old) id.now ++ drop result out.old }
 {
-    canonical_form::canonical(id, out).length as u64
+    match canonical_form::canonical(id, out) {
+        Some(form) => form.length as u64,
+        None => 0,
+    }
 }
 
 // The size of the binary that a reader hands back next, or 0.
@@ -30,12 +33,8 @@ pub extern "C" fn offload_canonical_length(id: &[u8], out: &mut [u8]) -> u64
 pub extern "C" fn offload_binaries_next_size(binaries: &[u8], position: usize, taken: usize) -> u64
     ensures { result ≡ (next binaries.now (record { position = position; taken = taken })).answer.binary.size }
 {
-    let cursor = Cursor {
-        position: position,
-        taken: taken,
-    };
-    offload_binaries::next_at(binaries, cursor)
-        .answer
-        .binary
-        .size as u64
+    match offload_binaries::next_at(binaries, Cursor { position, taken }) {
+        Ok((binary, _)) => binary.size as u64,
+        Err(_) => 0,
+    }
 }

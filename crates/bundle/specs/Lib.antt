@@ -17,3 +17,4 @@ pub mod Demand2
 pub mod EitherSpelling
 pub mod Stricter
 pub mod DifferenceTheorems
+pub mod Results

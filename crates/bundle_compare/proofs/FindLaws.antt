@@ -3,182 +3,214 @@ use Prim.Native.Nat.{ℕ, zero, suc, ◌+◌, ◌<◌, ◌≤◌}
 use native.Mathlib.Omega.{arith}
 use mathlib.Core.Path.{◌≡◌, refl, sym, ap, ap₂, ◌∙◌}
 use mathlib.Core.Logic.{◌⊎◌, inl, inr}
-use mathlib.Core.Bool.{false, ◌&&◌}
+use mathlib.Core.Bool.{true, false}
 use mathlib.Core.List.Memᴰ
-use mathlib.Core.List.{List, [], ◌∷◌, ◌++◌, map, append-nil, append_assoc, Memᴰ}
-use lib.Dec.{ltb}
-use lib.ListN.{length, get_or, take, drop, set, length-map, length-set, get_or-map, drop_of_length-le}
-use lib.Seq.{take-set-le, take-suc-set, drop-cons, drop-drop}
-use borrow.Author.Tests.{ltb-false}
-use Rattle.wire.proofs.Bools.{by_bool}
+use mathlib.Core.List.{List, [], ◌∷◌, ◌++◌, map, map-append, append_assoc, Memᴰ}
+use lib.ListN.{length, get_or, drop, length-append, length-map, length-drop}
+use borrow.Author.Tests.{eq-eqb, eqb-true}
+use Rattle.std.proofs.Common.{Option, None, Some, cond}
+use Rattle.wire.specs.Bytes.{same, before, common}
+use Rattle.wire.proofs.Bools.{by_bool, clash, is_true}
+use Rattle.wire.proofs.ByteLaws.{same_true, eq_same, same-common, before_other}
+use Rattle.wire.proofs.ListLaws.{at_member}
 use Rattle.bundle.specs.Entry.{Entry}
-use Rattle.bundle.specs.Differences.{Difference, only_left, only_right}
-use Rattle.bundle.proofs.WalkLaws.{walk, walk_end}
-use Rattle.bundle_compare.specs.Code.{entry_from, entries_from, difference_from, alone, Printable, AllPrintable, ShortIds, Turned}
-use Rattle.bundle_compare.proofs.TurnLaws.{turned_walk, turned_some}
+use Rattle.bundle.specs.Differences.{Difference, only_left, only_right, met}
+use Rattle.bundle.proofs.WalkLaws.{walk, walk_left, walk_right, walk_both, walk_end}
+use Rattle.normal_form.specs.Code.{no_held, value, values, Short}
+use Rattle.normal_form.specs.declared.Entry.{Entry as Held}
+use Rattle.normal_form.proofs.EncodeLaws.{values_at, values_end}
+use Rattle.bundle_compare.specs.Code.{shown, shown_all, ShortIds}
+use Rattle.bundle_compare.specs.declared.find.Difference.{Difference as Found}
+use Rattle.bundle_compare.specs.declared.find.Difference.TheVariants.{OnlyLeft, OnlyRight, Images}
 
--- ---- rows put one behind the other
+-- ---- two IDs, and two images
 
--- a row is put behind the first n, and counts or not
-pub rows_next : (rows : List (List ℕ)) (n lines : ℕ) (row : List ℕ) → lines ≤ 1 → n < length rows → take (n + lines) (set rows n row) ≡ take n rows ++ take lines (row ∷ [])
-rows_next rows n zero row h l =
-    ap (λ k. take k (set rows n row)) (let e : n + 0 ≡ n = omega arith in e) ∙ take-set-le n rows n row (omega arith) ∙ sym (append-nil (take n rows))
-rows_next rows n (suc zero) row h l = ap (λ k. take k (set rows n row)) (let e : n + 1 ≡ suc n = omega arith in e) ∙ take-suc-set rows n row l
-rows_next rows n (suc (suc m)) row h l = absurd (omega arith)
+pub order_other : (x y : List ℕ) → same x y ≡ false → before x y ≡ false → before y x ≡ true
+order_other x y u v = is_true _ (before_other x y (λ t. clash _ (is_true _ t) v) (λ q. clash _ (eq_same x y q) u))
 
-module _ {A B : Type 0} (f : A → B) where
-  pub map-append : (a b : List A) → map f (a ++ b) ≡ map f a ++ map f b
-  map-append [] b = refl
-  map-append (x ∷ a) b = ap (λ l. f x ∷ l) (map-append a b)
+module _ (x y : List ℕ) where
+  pub images-same : length x ≡ length y → common x y ≡ length x → same x y ≡ true
+  images-same h e = sym (same-common x y h) ∙ eq-eqb _ _ e
 
-  pub map-drop : (n : ℕ) (l : List A) → map f (drop n l) ≡ drop n (map f l)
-  map-drop zero l = refl
-  map-drop (suc n) [] = refl
-  map-drop (suc n) (x ∷ l) = map-drop n l
+  pub images-other : (length x ≡ length y → common x y ≡ length x → ⊥) → same x y ≡ false
+  images-other h =
+      by_bool (same x y)
+      (λ t. let q = same_true x y t in absurd (h (ap length q) (eqb-true _ _ (same-common x y (ap length q) ∙ t))))
+      (λ f. f)
 
-  map_few : (n : ℕ) (x : A) → n ≤ 1 → map f (take n (x ∷ [])) ≡ take n (f x ∷ [])
-  map_few zero x h = refl
-  map_few (suc zero) x h = refl
-  map_few (suc (suc n)) x h = absurd (omega arith)
+abbrev first_difference : List ℕ → List ℕ → Option ℕ
+first_difference x y = cond (same x y) None (Some (common x y))
 
--- ---- entries that one side has alone
+-- ---- one more difference
 
--- one more: what is left of them goes on behind it
-pub rest_next : (letter : ℕ) (places found : List (List ℕ)) (k n : ℕ) → k < length places → n < length found
-    → take (n + 1) (set found n (alone letter (get_or places k []))) ++ map (alone letter) (drop (k + 1) places) ≡ take n found ++ map (alone letter) (drop k places)
-rest_next letter places found k n h l =
-    let row : List ℕ = alone letter (get_or places k []) in
-    ap₂ (λ a b. a ++ map (alone letter) b) (rows_next found n 1 row (omega arith) l) (ap (λ m. drop m places) (let e : k + 1 ≡ suc k = omega arith in e))
-    ∙ append_assoc (take n found) (row ∷ []) (map (alone letter) (drop (suc k) places))
-    ∙ ap (λ b. take n found ++ map (alone letter) b) (sym (drop-cons places k [] h))
+both_short : (a b : List Found) → ShortIds a → ShortIds b → ShortIds (a ++ b)
+both_short a b p q d m = elim (Memᴰ.append_cases a m) [ inl u ↦ p d u | inr u ↦ q d u ]
 
-pub rest_end : (letter : ℕ) (places found : List (List ℕ)) (k n : ℕ) → length places ≤ k → take n found ++ map (alone letter) (drop k places) ≡ take n found
-rest_end letter places found k n h = ap (λ b. take n found ++ map (alone letter) b) (drop_of_length-le places h) ∙ append-nil (take n found)
+one_short : (d : Found) → length (shown d).id ≤ 256 → ShortIds (d ∷ [])
+one_short d h x m = elim (Memᴰ.cases_cons m) [ inl e ↦ rw e h | inr v ↦ absurd (Memᴰ.not-nil v) ]
 
--- ---- two lists of entries
+module _ (l r : List Held) where
+  abbrev Left : ℕ → List Entry
+  Left i = drop i (values l)
 
-module _ (left right lt rt : List ℕ) (lp rp : List (List ℕ)) where
-  abbrev l : List Entry
-  l = entries_from left lt lp
+  abbrev Right : ℕ → List Entry
+  Right j = drop j (values r)
 
-  abbrev r : List Entry
-  r = entries_from right rt rp
+  -- i and j entries went, and these differences are found
+  pub record Progress (found : List Found) (i j : ℕ) : Type 0 where
+    pub left_in : i ≤ length l
+    pub right_in : j ≤ length r
+    pub few : length found ≤ i + j
+    pub short : ShortIds found
+    pub so_far : shown_all found ++ walk (Left i) (Right j) ≡ walk (values l) (values r)
 
-  abbrev shown : List ℕ → Difference
-  shown = difference_from lt rt
+  pub progress_none : Progress [] 0 0
+  progress_none = record { left_in = omega arith; right_in = omega arith; few = omega arith; short = λ d m. absurd (Memᴰ.not-nil m); so_far = refl }
 
-  -- i and j entries went, and `count` differences are found, in a list with so much room
-  pub record Progress (room : ℕ) (found : List (List ℕ)) (i j count : ℕ) : Type 0 where
-    pub left_in : i ≤ length lp
-    pub right_in : j ≤ length rp
-    pub few : count ≤ i + j
-    pub same_room : length found ≡ room
-    pub printable : AllPrintable (take count found)
-    pub so_far : map shown (take count found) ++ walk (drop i l) (drop j r) ≡ walk l r
+  more : (found : List Found) (d : Found) (rest : List Difference) → shown_all (found ++ (d ∷ [])) ++ rest ≡ shown_all found ++ (shown d ∷ rest)
+  more found d rest = ap (λ a. a ++ rest) (map-append shown found (d ∷ [])) ∙ append_assoc (shown_all found) (shown d ∷ []) rest
 
-  pub progress_none : (found : List (List ℕ)) → Progress (length found) found 0 0 0
-  progress_none found = record {
-    left_in = omega arith;
-    right_in = omega arith;
-    few = omega arith;
-    same_room = refl;
-    printable = λ row m. absurd (Memᴰ.not-nil m);
-    so_far = refl;
-  }
+  module _ (sl : Short l) (sr : Short r) (found : List Found) (i j : ℕ) (p : Progress found i j) (hi : i < length l) (hj : j < length r) where
+    abbrev e : Held
+    e = get_or l i no_held
 
-  one_more : (rows : List (List ℕ)) (row : List ℕ) (lines : ℕ) → AllPrintable rows → Printable row → lines ≤ 1 → AllPrintable (rows ++ take lines (row ∷ []))
-  one_more rows row lines p q h x m = elim (Memᴰ.append_cases rows m) [ inl u ↦ p x u | inr u ↦ among lines h u ]
-    where
-      among : (n : ℕ) → n ≤ 1 → Memᴰ x (take n (row ∷ [])) → Printable x
-      among zero h u = absurd (Memᴰ.not-nil u)
-      among (suc zero) h u = elim (Memᴰ.cases_cons u) [ inl e ↦ rw e q | inr v ↦ absurd (Memᴰ.not-nil v) ]
-      among (suc (suc n)) h u = absurd (omega arith)
+    abbrev f : Held
+    f = get_or r j no_held
 
-  -- the first of what is left
-  ahead : (s texts : List ℕ) (places : List (List ℕ)) (i : ℕ) → i < length places
-      → drop i (entries_from s texts places) ≡ entry_from s texts (get_or places i []) ∷ drop (suc i) (entries_from s texts places)
-  ahead s texts places i h =
-      drop-cons (entries_from s texts places) i (entry_from s texts []) (omega (arith, h, length-map places (entry_from s texts)))
-      ∙ ap (λ e. e ∷ drop (suc i) (entries_from s texts places)) (get_or-map (entry_from s texts) places i [])
+    ahead : walk (Left i) (Right j) ≡ walk (value e ∷ Left (i + 1)) (value f ∷ Right (j + 1))
+    ahead = ap₂ walk (values_at l i hi) (values_at r j hj)
 
-  module _ (room : ℕ) (found : List (List ℕ)) (i j count : ℕ) (v : Progress room found i j count) (hi : i < length lp) (hj : j < length rp) (hc : count < length found)
-      (gl gr lines : ℕ) (row : List ℕ)
-      (t : Turned (entry_from left lt (get_or lp i [])) (entry_from right rt (get_or rp j [])) gl gr lines (shown row)) (q : Printable row) where
-    some : (gl ≤ 1) × (gr ≤ 1) × (1 ≤ gl + gr) × (lines ≤ 1)
-    some = turned_some _ _ gl gr lines (shown row) t
+    short_left : length e.id.now ≤ 256
+    short_left = sl e (at_member l no_held i hi)
 
-    rows : take (count + lines) (set found count row) ≡ take count found ++ take lines (row ∷ [])
-    rows = rows_next found count lines row some.3 hc
+    short_right : length f.id.now ≤ 256
+    short_right = sr f (at_member r no_held j hj)
 
-    walked : walk (drop i l) (drop j r) ≡ take lines (shown row ∷ []) ++ walk (drop (i + gl) l) (drop (j + gr) r)
-    walked =
-        ap₂ walk (ahead left lt lp i hi) (ahead right rt rp j hj)
-        ∙ turned_walk _ _ (drop (suc i) l) (drop (suc j) r) gl gr lines (shown row) t
-        ∙ ap₂ (λ a b. take lines (shown row ∷ []) ++ walk a b)
-        (ap (drop gl) (sym (ahead left lt lp i hi)) ∙ drop-drop gl i l)
-        (ap (drop gr) (sym (ahead right rt rp j hj)) ∙ drop-drop gr j r)
-
-    pub progress_next : Progress room (set found count row) (i + gl) (j + gr) (count + lines)
-    progress_next = record {
-      left_in = omega (arith, hi, some.0);
-      right_in = omega (arith, hj, some.1);
-      few = omega (arith, v.few, some.2, some.3);
-      same_room = length-set found count row ∙ v.same_room;
-      printable = rw rows (one_more (take count found) row lines v.printable q some.3);
+    pub progress_left : before e.id.now f.id.now ≡ true → Progress (found ++ (OnlyLeft e.id ∷ [])) (i + 1) j
+    progress_left t = record {
+      left_in = omega arith;
+      right_in = p.right_in;
+      few = omega (arith, p.few, length-append found (OnlyLeft e.id ∷ []));
+      short = both_short found (OnlyLeft e.id ∷ []) p.short (one_short (OnlyLeft e.id) short_left);
       so_far =
-          ap (λ z. map shown z ++ walk (drop (i + gl) l) (drop (j + gr) r)) rows
-          ∙ ap (λ z. z ++ walk (drop (i + gl) l) (drop (j + gr) r)) (map-append shown (take count found) (take lines (row ∷ [])) ∙ ap (λ z. map shown (take count found) ++ z) (map_few shown lines row some.3))
-          ∙ append_assoc (map shown (take count found)) (take lines (shown row ∷ [])) (walk (drop (i + gl) l) (drop (j + gr) r))
-          ∙ ap (λ z. map shown (take count found) ++ z) (sym walked)
-          ∙ v.so_far;
+          more found (OnlyLeft e.id) (walk (Left (i + 1)) (Right j))
+          ∙ ap (λ z. shown_all found ++ (only_left (value e) ∷ walk (Left (i + 1)) z)) (values_at r j hj)
+          ∙ ap (λ z. shown_all found ++ z) (sym (ahead ∙ walk_left (value e) (value f) (Left (i + 1)) (Right (j + 1)) t))
+          ∙ p.so_far;
     }
 
-  -- ---- where one list is at its end, the rest of the other
+    pub progress_right : before f.id.now e.id.now ≡ true → Progress (found ++ (OnlyRight f.id ∷ [])) i (j + 1)
+    progress_right t = record {
+      left_in = p.left_in;
+      right_in = omega arith;
+      few = omega (arith, p.few, length-append found (OnlyRight f.id ∷ []));
+      short = both_short found (OnlyRight f.id ∷ []) p.short (one_short (OnlyRight f.id) short_right);
+      so_far =
+          more found (OnlyRight f.id) (walk (Left i) (Right (j + 1)))
+          ∙ ap (λ z. shown_all found ++ (only_right (value f) ∷ walk z (Right (j + 1)))) (values_at l i hi)
+          ∙ ap (λ z. shown_all found ++ z) (sym (ahead ∙ walk_right (value e) (value f) (Left (i + 1)) (Right (j + 1)) t))
+          ∙ p.so_far;
+    }
 
-  alone-left : (places : List (List ℕ)) → map shown (map (alone 76) places) ≡ map only_left (entries_from left lt places)
-  unfolding difference_from entry_from
-  alone-left [] = refl
-  alone-left (p ∷ ps) = ap (λ z. shown (alone 76 p) ∷ z) (alone-left ps)
+    module _ (q : e.id.now ≡ f.id.now) where
+      met_ahead : (ds : List Difference) → met (value e) (value f) ≡ ds → walk (Left i) (Right j) ≡ ds ++ walk (Left (i + 1)) (Right (j + 1))
+      met_ahead ds m = ahead ∙ walk_both (value e) (value f) (Left (i + 1)) (Right (j + 1)) q ∙ ap (λ z. z ++ walk (Left (i + 1)) (Right (j + 1))) m
 
-  alone-right : (places : List (List ℕ)) → map shown (map (alone 82) places) ≡ map only_right (entries_from right rt places)
-  unfolding difference_from entry_from
-  alone-right [] = refl
-  alone-right (p ∷ ps) = ap (λ z. shown (alone 82 p) ∷ z) (alone-right ps)
+      module _ (o : Option ℕ) (given : o ≡ first_difference e.image.now f.image.now) where
+        pub progress_none_found : ((n : ℕ) → o ≡ Some n → ⊥) → Progress found (i + 1) (j + 1)
+        unfolding met
+        progress_none_found h =
+            let t : same e.image.now f.image.now ≡ true = by_bool (same e.image.now f.image.now) (λ t. t) (λ u. absurd (h (common e.image.now f.image.now) (given ∙ rw u refl))) in
+            record {
+              left_in = omega arith;
+              right_in = omega arith;
+              few = omega (arith, p.few);
+              short = p.short;
+              so_far = ap (λ z. shown_all found ++ z) (sym (met_ahead [] (rw t))) ∙ p.so_far;
+            }
 
-  at_end : (i j : ℕ) → (ltb i (length lp) && ltb j (length rp)) ≡ false → (drop i l ≡ []) ⊎ (drop j r ≡ [])
-  at_end i j e =
-      by_bool (ltb i (length lp))
-      (λ t. let g : length rp ≤ j = ltb-false j (length rp) (rw t at e) in let h : length r ≤ j = omega (arith, g, length-map rp (entry_from right rt)) in inr (drop_of_length-le r h))
-      (λ f. let g : length lp ≤ i = ltb-false i (length lp) f in let h : length l ≤ i = omega (arith, g, length-map lp (entry_from left lt)) in inl (drop_of_length-le l h))
+        pub progress_found : (n : ℕ) → o ≡ Some n → Progress (found ++ (Images e.id n ∷ [])) (i + 1) (j + 1)
+        unfolding met
+        progress_found n h =
+            let x = e.image.now in
+            let y = f.image.now in
+            let g : Some n ≡ first_difference x y = sym h ∙ given in
+            let u : same x y ≡ false = by_bool (same x y) (λ t. absurd (let z : Some n ≡ None = rw t at g in cc)) (λ u. u) in
+            let k : n ≡ common x y = let z : Some n ≡ Some (common x y) = rw u at g in cc in
+            record {
+              left_in = omega arith;
+              right_in = omega arith;
+              few = omega (arith, p.few, length-append found (Images e.id n ∷ []));
+              short = both_short found (Images e.id n ∷ []) p.short (one_short (Images e.id n) short_left);
+              so_far =
+                  more found (Images e.id n) (walk (Left (i + 1)) (Right (j + 1)))
+                  ∙ ap (λ z. shown_all found ++ z) (sym (met_ahead (shown (Images e.id n) ∷ []) (rw (k, u))))
+                  ∙ p.so_far;
+            }
 
-  alone_printable : (letter i : ℕ) (places : List (List ℕ)) → letter < 256 → ShortIds places → AllPrintable (map (alone letter) (drop i places))
-  alone_printable letter i places h s x m =
-      let o = Memᴰ.of_map (alone letter) (drop i places) m in
-      rw (sym o.2) (record { letter = h; short = s o.0 (dropped places i o.0 o.1) })
-    where
-      dropped : (l : List (List ℕ)) (n : ℕ) (y : List ℕ) → Memᴰ y (drop n l) → Memᴰ y l
-      dropped l zero y u = u
-      dropped [] (suc n) y u = u
-      dropped (z ∷ l) (suc n) y u = Memᴰ.tail (dropped l n y u)
+-- ---- where one list is at its end, the rest of the other
 
-  both_printable : (a b : List (List ℕ)) → AllPrintable a → AllPrintable b → AllPrintable (a ++ b)
-  both_printable a b p q x m = elim (Memᴰ.append_cases a m) [ inl u ↦ p x u | inr u ↦ q x u ]
+abbrev pub lefts : List Held → List Found
+lefts es = map (λ e. OnlyLeft e.id) es
 
-  module _ (room : ℕ) (found : List (List ℕ)) (i j count : ℕ) (v : Progress room found i j count) (e : (ltb i (length lp) && ltb j (length rp)) ≡ false)
-      (mid last : List (List ℕ)) (hm : mid ≡ take count found ++ map (alone 76) (drop i lp)) (hl : last ≡ mid ++ map (alone 82) (drop j rp)) where
-    pub progress_printable : ShortIds lp → ShortIds rp → AllPrintable last
-    progress_printable s t =
-        rw (hl, hm) (both_printable (take count found ++ map (alone 76) (drop i lp)) (map (alone 82) (drop j rp))
-        (both_printable (take count found) (map (alone 76) (drop i lp)) v.printable (alone_printable 76 i lp (omega arith) s))
-        (alone_printable 82 j rp (omega arith) t))
+abbrev pub rights : List Held → List Found
+rights es = map (λ e. OnlyRight e.id) es
 
-    pub progress_end : map shown last ≡ walk l r
-    progress_end =
-        ap (map shown) (hl ∙ ap (λ z. z ++ map (alone 82) (drop j rp)) hm)
-        ∙ map-append shown (take count found ++ map (alone 76) (drop i lp)) (map (alone 82) (drop j rp))
-        ∙ ap₂ ◌++◌
-        (map-append shown (take count found) (map (alone 76) (drop i lp)) ∙ ap (λ z. map shown (take count found) ++ z) (alone-left (drop i lp) ∙ ap (map only_left) (map-drop (entry_from left lt) i lp)))
-        (alone-right (drop j rp) ∙ ap (map only_right) (map-drop (entry_from right rt) j rp))
-        ∙ append_assoc (map shown (take count found)) (map only_left (drop i l)) (map only_right (drop j r))
-        ∙ ap (λ z. map shown (take count found) ++ z) (sym (walk_end (drop i l) (drop j r) (at_end i j e)))
-        ∙ v.so_far
+shown_lefts : (es : List Held) → shown_all (lefts es) ≡ map only_left (values es)
+shown_lefts [] = refl
+shown_lefts (e ∷ es) = ap (λ z. only_left (value e) ∷ z) (shown_lefts es)
+
+shown_rights : (es : List Held) → shown_all (rights es) ≡ map only_right (values es)
+shown_rights [] = refl
+shown_rights (e ∷ es) = ap (λ z. only_right (value e) ∷ z) (shown_rights es)
+
+values_drop : (i : ℕ) (es : List Held) → values (drop i es) ≡ drop i (values es)
+values_drop zero es = refl
+values_drop (suc i) [] = refl
+values_drop (suc i) (e ∷ es) = values_drop i es
+
+dropped : (i : ℕ) (es : List Held) (e : Held) → Memᴰ e (drop i es) → Memᴰ e es
+dropped zero es e m = m
+dropped (suc i) [] e m = m
+dropped (suc i) (x ∷ es) e m = Memᴰ.tail (dropped i es e m)
+
+lefts_short : (es : List Held) → Short es → ShortIds (lefts es)
+lefts_short es s d m = let o = Memᴰ.of_map (λ (e : Held). OnlyLeft e.id) es m in rw (sym o.2) (s o.0 o.1)
+
+rights_short : (es : List Held) → Short es → ShortIds (rights es)
+rights_short es s d m = let o = Memᴰ.of_map (λ (e : Held). OnlyRight e.id) es m in rw (sym o.2) (s o.0 o.1)
+
+module _ (l r : List Held) (found : List Found) (i j : ℕ) (p : Progress l r found i j) where
+  abbrev all : List Found
+  all = found ++ lefts (drop i l) ++ rights (drop j r)
+
+  pub all_few : length all ≤ length l + length r
+  all_few =
+      omega (
+        arith,
+        p.few,
+        p.left_in,
+        p.right_in,
+        length-append (found ++ lefts (drop i l)) (rights (drop j r)),
+        length-append found (lefts (drop i l)),
+        length-map (drop i l) (λ (e : Held). OnlyLeft e.id),
+        length-map (drop j r) (λ (e : Held). OnlyRight e.id),
+        length-drop i l,
+        length-drop j r,
+      )
+
+  pub all_short : Short l → Short r → ShortIds all
+  all_short sl sr =
+      both_short (found ++ lefts (drop i l)) (rights (drop j r))
+      (both_short found (lefts (drop i l)) p.short (lefts_short (drop i l) (λ e m. sl e (dropped i l e m))))
+      (rights_short (drop j r) (λ e m. sr e (dropped j r e m)))
+
+  pub all_found : (length l ≤ i) ⊎ (length r ≤ j) → shown_all all ≡ walk (values l) (values r)
+  all_found h =
+      map-append shown (found ++ lefts (drop i l)) (rights (drop j r))
+      ∙ ap₂ ◌++◌
+      (map-append shown found (lefts (drop i l)) ∙ ap (λ z. shown_all found ++ z) (shown_lefts (drop i l) ∙ ap (map only_left) (values_drop i l)))
+      (shown_rights (drop j r) ∙ ap (map only_right) (values_drop j r))
+      ∙ append_assoc (shown_all found) (map only_left (drop i (values l))) (map only_right (drop j (values r)))
+      ∙ ap (λ z. shown_all found ++ z) (sym (walk_end (drop i (values l)) (drop j (values r)) (elim h [ inl a ↦ inl (values_end l i a) | inr b ↦ inr (values_end r j b) ])))
+      ∙ p.so_far

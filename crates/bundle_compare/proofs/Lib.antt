@@ -1,8 +1,5 @@
-pub mod PartLaws
-pub mod PlaceLaws
-pub mod TurnLaws
-pub mod FindLaws
 pub mod PutLaws
 pub mod TextLaws
+pub mod FindLaws
 pub mod ReadLaws
 pub mod CompareLaws

@@ -1,147 +1,153 @@
 // The differences of two lists of entries, which are in the order of their IDs.
-ghost use Rattle.std.specs.Prelude.{◌≡◌, cond, ◌+◌, ◌-◌, ◌<◌, ◌≤◌, [], ◌∷◌, ◌++◌, map, T, length, get_or, take, drop};
+ghost use Rattle.std.specs.Prelude.{◌≡◌, ◌+◌, ◌<◌, ◌≤◌, [], ◌∷◌, ◌++◌, map, T, Option, None, Some, cond, length, take};
 ghost use Rattle.wire.specs.Bytes.{same, common};
 ghost use Rattle.wire.specs.Order.{rising_by};
 ghost use Rattle.bundle.specs.Normal.{by_id};
 ghost use Rattle.bundle.specs.Differences.{differences_of};
-ghost use Rattle.bundle_compare.specs.Code.{part as part_of, entry_from, entries_from, difference_from, alone, Printable, AllPrintable, ShortIds, Turned};
+ghost use Rattle.normal_form.specs.Code.{values, Short};
+ghost use Rattle.bundle_compare.specs.Code.{shown, shown_all, ShortIds, Ordered};
 
-// The letters of differences: only the left has the entry, only the right has, both have.
-const LEFT: usize = 76;
+use normal_form::Entry;
+use std::cmp::Ordering;
+use std::marker::Model;
 
-pub(crate) const RIGHT: usize = 82;
-
-pub(crate) const BOTH: usize = 68;
-
-// How many entries of the left and of the right go, how many differences that makes, none or one, and which: its letter, where its ID starts and how long
-// that is, and the first byte at which images differ.
+// A difference of two bundles: an entry, by its ID, that only one of them has; or one that both have, and the first byte at which the images differ.
 #[derive(Clone, Copy)]
-struct Turn {
-    left: usize,
-    right: usize,
-    lines: usize,
-    row: [usize; 4],
+pub(crate) enum Difference<'a> {
+    OnlyLeft(&'a [u8]),
+    OnlyRight(&'a [u8]),
+    Images { id: &'a [u8], at: usize },
 }
 
-// So many bytes of s from `start` on, as far as s reaches.
-pub(crate) fn part<'a>(s: &'a [u8], start: usize, len: usize) -> &'a [u8]
-    ensures { result.now ≡ part_of s.now start len }
-{
-    if s.len() <= start {
-        return &s[..0];
+impl<'a> Difference<'a> {
+    // The letter of its line.
+    pub(crate) fn letter(self) -> u8
+        ensures { result ≡ (shown self.entry).letter }
+    {
+        match self {
+            Difference::OnlyLeft(_) => b'L',
+            Difference::OnlyRight(_) => b'R',
+            Difference::Images { .. } => b'D',
+        }
     }
-    if s.len() - start < len {
-        return &s[start..];
-    }
-    &s[start..start + len]
-}
 
-// Two entries with one ID go together, and differ where their images do.
-fn meet(left: &[u8], l: [usize; 4], right: &[u8], r: [usize; 4]) -> Turn
-    ensures { (result.left ≡ 1) × (result.right ≡ 1) × (result.lines ≡ cond (same (part_of left.now (get_or l 2 0) (get_or l 3 0)) (part_of right.now (get_or r 2 0) (get_or r 3 0))) 0 1) × (result.row ≡ 68 ∷ get_or l 0 0 ∷ get_or l 1 0 ∷ common (part_of left.now (get_or l 2 0) (get_or l 3 0)) (part_of right.now (get_or r 2 0) (get_or r 3 0)) ∷ []) }
-{
-    let p = part(left, l[2], l[3]);
-    let q = part(right, r[2], r[3]);
-    let n = wire_read::common_prefix(p, q);
-    let row = [BOTH, l[0], l[1], n];
-    if (p.len() == q.len()) & (n == p.len()) {
-        return Turn {
-            left: 1,
-            right: 1,
-            lines: 0,
-            row,
-        };
-    }
-    Turn {
-        left: 1,
-        right: 1,
-        lines: 1,
-        row,
+    pub(crate) fn id(self) -> &'a [u8]
+        ensures { result.now ≡ (shown self.entry).id }
+    {
+        match self {
+            Difference::OnlyLeft(id) | Difference::OnlyRight(id) => id,
+            Difference::Images { id, .. } => id,
+        }
     }
 }
 
-// The first entries of two lists: the one whose ID stands before the other's goes alone.
-fn take_turn(
-    left: &[u8],
-    left_texts: &[u8],
-    l: [usize; 4],
-    right: &[u8],
-    right_texts: &[u8],
-    r: [usize; 4],
-) -> Turn
-    requires { (get_or l 1 0 ≤ 256) × (get_or r 1 0 ≤ 256) }
-    ensures { Turned (entry_from left.now left_texts.now l) (entry_from right.now right_texts.now r) result.left result.right result.lines (difference_from left_texts.now right_texts.now result.row) × Printable result.row }
+// The differences found: two bundles have at most 128 entries.
+#[derive(Drop)]
+pub(crate) struct Differences<'a> {
+    list: [Difference<'a>; 128],
+    count: usize,
+}
+
+impl<'a> Model for Differences<'a> {
+    ghost use Rattle.std.specs.Prelude.{◌≡◌, ◌≤◌, List, length, take};
+    ghost use Rattle.bundle_compare.specs.declared.find.Difference.{Difference};
+
+    ghost Value = { List Difference };
+
+    ghost view = { λ s. take s.count s.list };
+
+    ghost invariant = { λ s. (s.count ≤ 128) × (length s.list ≡ 128) };
+}
+
+impl<'a> Differences<'a> {
+    pub(crate) fn new() -> Differences<'a>
+        ensures { result ≡ [] }
+    {
+        Differences {
+            list: [Difference::OnlyLeft(b""); 128],
+            count: 0,
+        }
+    }
+
+    pub(crate) fn push(&mut self, difference: Difference<'a>)
+        requires { length self.old < 128 }
+        ensures { self.new ≡ self.old ++ (difference.entry ∷ []) }
+    {
+        self.list[self.count] = difference;
+        self.count += 1;
+    }
+
+    pub(crate) fn as_slice(&self) -> &[Difference<'a>]
+        ensures { result.now ≡ self.now }
+    {
+        &self.list[..self.count]
+    }
+}
+
+// How two IDs stand in byte order.
+fn order(x: &[u8], y: &[u8]) -> Ordering
+    ensures { Ordered x.now y.now result }
 {
-    let x = part(left_texts, l[0], l[1]);
-    let y = part(right_texts, r[0], r[1]);
     if wire_read::same_bytes(x, y) {
-        return meet(left, l, right, r);
+        return Ordering::Equal;
     }
     if wire_read::comes_before(x, y) {
-        return Turn {
-            left: 1,
-            right: 0,
-            lines: 1,
-            row: [LEFT, l[0], l[1], 0],
-        };
+        return Ordering::Less;
     }
-    Turn {
-        left: 0,
-        right: 1,
-        lines: 1,
-        row: [RIGHT, r[0], r[1], 0],
-    }
+    Ordering::Greater
 }
 
-// The entries from the i-th on, which one side has alone, are differences behind the first `count`. How many there are then.
-fn add_rest(
-    letter: usize,
-    places: &[[usize; 4]],
-    from: usize,
-    found: &mut [[usize; 4]],
-    count: usize,
-) -> usize
-    requires { (from ≤ length places.now) × (count + (length places.now - from) ≤ length found.old) }
-    ensures { (result ≡ count + (length places.now - from)) × (length found.new ≡ length found.old) × (take result found.new ≡ take count found.old ++ map (alone letter) (drop from places.now)) }
+// The first byte at which two images differ.
+// The length of the common start tells equality too: `same_bytes` would read both images a second time.
+fn first_difference(x: &[u8], y: &[u8]) -> Option<usize>
+    ensures { result ≡ cond (same x.now y.now) None (Some (common x.now y.now)) }
 {
-    let mut k = from;
-    let mut n = count;
-    while k < places.len() {
-        let place = places[k];
-        found[n] = [letter, place[0], place[1], 0];
-        n += 1;
-        k += 1;
+    let n = wire_read::common_prefix(x, y);
+    if x.len() == y.len() && n == x.len() {
+        return None;
     }
-    n
+    Some(n)
 }
 
-// The differences of the entries at the places of the left and of the right; how many there are.
-pub(crate) fn find_differences(
-    left: &[u8],
-    left_texts: &[u8],
-    left_places: &[[usize; 4]],
-    right: &[u8],
-    right_texts: &[u8],
-    right_places: &[[usize; 4]],
-    found: &mut [[usize; 4]],
-) -> usize
-    requires short_ids { ShortIds left_places.now × ShortIds right_places.now × (length left_places.now + length right_places.now ≤ length found.old) }
-    requires t { T (rising_by by_id (entries_from left.now left_texts.now left_places.now)) × T (rising_by by_id (entries_from right.now right_texts.now right_places.now)) }
-    ensures { (result ≤ length found.new) × (length found.new ≡ length found.old) × AllPrintable (take result found.new) × (map (difference_from left_texts.now right_texts.now) (take result found.new) ≡ differences_of (entries_from left.now left_texts.now left_places.now) (entries_from right.now right_texts.now right_places.now)) }
+// The differences of the entries of the left and of the right. Out of line, so that its list does not lie on the stack while entries are sorted.
+#[inline(never)]
+pub(crate) fn find_differences<'a>(left: &[Entry<'a>], right: &[Entry<'a>]) -> Differences<'a>
+    requires few { length left.now + length right.now ≤ 128 }
+    requires short { Short left.now × Short right.now }
+    requires rising { T (rising_by by_id (values left.now)) × T (rising_by by_id (values right.now)) }
+    ensures value { shown_all result ≡ differences_of (values left.now) (values right.now) }
+    ensures fits { (length result ≤ 128) × ShortIds result }
 {
-    let mut i: usize = 0;
-    let mut j: usize = 0;
-    let mut count: usize = 0;
-    while (i < left_places.len()) & (j < right_places.len()) {
-        let l = left_places[i];
-        let r = right_places[j];
-        let t = take_turn(left, left_texts, l, right, right_texts, r);
-        let row = t.row;
-        found[count] = row;
-        count += t.lines;
-        i += t.left;
-        j += t.right;
+    let mut found = Differences::new();
+    let mut i = 0;
+    let mut j = 0;
+    // Not a range: each list goes at its own pace.
+    while i < left.len() && j < right.len() {
+        let l = left[i];
+        let r = right[j];
+        match order(l.id, r.id) {
+            Ordering::Less => {
+                found.push(Difference::OnlyLeft(l.id));
+                i += 1;
+            }
+            Ordering::Greater => {
+                found.push(Difference::OnlyRight(r.id));
+                j += 1;
+            }
+            Ordering::Equal => {
+                if let Some(at) = first_difference(l.image, r.image) {
+                    found.push(Difference::Images { id: l.id, at });
+                }
+                i += 1;
+                j += 1;
+            }
+        }
     }
-    let more = add_rest(LEFT, left_places, i, found, count);
-    add_rest(RIGHT, right_places, j, found, more)
+    for l in &left[i..] {
+        found.push(Difference::OnlyLeft(l.id));
+    }
+    for r in &right[j..] {
+        found.push(Difference::OnlyRight(r.id));
+    }
+    found
 }

@@ -4,82 +4,50 @@
 mod find;
 mod report;
 
-ghost use Rattle.std.specs.Prelude.{◌≡◌, ℕ, ◌<◌, ◌≤◌, [], length, get_or};
+ghost use Rattle.std.specs.Prelude.{◌≡◌, Ok, length};
 ghost use Rattle.entry_id.specs.Rules.{id_rules};
 ghost use Rattle.bundle.specs.Differences.{report, reported};
-ghost use Rattle.bundle_compare.specs.Code.{place_of, Listed};
+ghost use Rattle.bundle_compare.specs.Code.{Reads};
 
 use crate::find::find_differences;
 use crate::report::{write_differences, write_refused};
-use bundle::EntryRecord;
+use bundle_reader::{CanonicalId, Examined, no_ids};
 use entry_id::Reading;
+use normal_form::sorted_entries;
+use wire::{Reason, Refusal};
 
-// The most bytes in a bundle that is compared, and what refuses a longer one.
+// The most bytes in a bundle that is compared.
 const COMPARE_LIMIT: usize = 32768;
 
-const LENGTH: usize = 1;
-
-// A bundle that was read: what refuses it, or 0 and how many entries it has.
-#[derive(Clone, Copy)]
-struct Side {
-    number: usize,
-    count: usize,
-}
-
-// Where the ID and the image of each of n entries lie, in an order.
-fn list_places(
-    rows: [EntryRecord; 64],
-    lens: &[usize],
-    order: [usize; 64],
-    n: usize,
-    places: &mut [[usize; 4]],
-)
-    requires { (n ≤ 64) × (length lens.now ≡ 64) × (length places.old ≡ 64) × ((k : ℕ) → k < n → get_or order k 0 < 64) }
-    ensures { (length places.new ≡ 64) × ((k : ℕ) → k < n → get_or places.new k [] ≡ place_of rows lens.now (get_or order k 0)) }
-{
-    let mut k: usize = 0;
-    while k < n {
-        let i = order[k];
-        let r = rows[i];
-        places[k] = [i * 256, lens[i], r.image_start, r.image_len];
-        k += 1;
-    }
-}
-
-// Reads a bundle: its canonical IDs go to `texts`, the places of its entries, in the order of their IDs, to `places`.
-fn read_in(
-    s: &[u8],
-    texts: &mut [u8; 16384],
-    lens: &mut [usize; 64],
-    places: &mut [[usize; 4]],
-) -> Side
-    requires { length places.old ≡ 64 }
-    ensures { Listed s.now texts.new places.new result.number result.count }
+// Examines a bundle that is compared: LENGTH refuses a longer one. Its canonical IDs go to `ids`.
+fn read(s: &[u8], ids: &mut [CanonicalId; 64]) -> Result<Examined, Refusal>
+    ensures { Reads s.now ids.new result }
 {
     if COMPARE_LIMIT < s.len() {
-        return Side {
-            number: LENGTH,
-            count: 0,
-        };
+        return Err(Reason::Length.at(0));
     }
-    let e = bundle_reader::examine(Reading::General, s, texts, lens);
-    let number = e.number;
-    if 0 < number {
-        return Side { number, count: 0 };
-    }
-    let count = e.count;
-    let order = normal_form::rising_order(texts, lens, count);
-    let rows = e.rows;
-    list_places(rows, lens, order, count, places);
-    Side { number: 0, count }
+    bundle_reader::examine(Reading::General, s, ids)
 }
 
-fn read(s: &[u8], texts: &mut [u8; 16384], places: &mut [[usize; 4]]) -> Side
-    requires { length places.old ≡ 64 }
-    ensures { Listed s.now texts.new places.new result.number result.count }
+// The report on two bundles that were examined. Out of line, so that its lists do not lie on the stack while the bundles are examined.
+#[inline(never)]
+fn report_differences(
+    left: &[u8],
+    l: &Examined,
+    left_ids: &[CanonicalId; 64],
+    right: &[u8],
+    r: &Examined,
+    right_ids: &[CanonicalId; 64],
+    out: &mut [u8],
+) -> usize
+    requires { Reads left.now left_ids.now (Ok l.now) × Reads right.now right_ids.now (Ok r.now) }
+    ensures value { result ≡ length (report id_rules left.now right.now) }
+    ensures out_after { out.new ≡ reported id_rules left.now right.now out.old }
 {
-    let mut lens = [0usize; 64];
-    read_in(s, texts, &mut lens, places)
+    let left_entries = sorted_entries(left, &l.rows[..l.count], left_ids);
+    let right_entries = sorted_entries(right, &r.rows[..r.count], right_ids);
+    let found = find_differences(&left_entries[..l.count], &right_entries[..r.count]);
+    write_differences(found.as_slice(), out)
 }
 
 // The report on the differences of two bundles, over `out` where it fits; how many bytes it has.
@@ -87,29 +55,15 @@ pub fn compare(left: &[u8], right: &[u8], out: &mut [u8]) -> usize
     ensures value { result ≡ length (report id_rules left.now right.now) }
     ensures out_after { out.new ≡ reported id_rules left.now right.now out.old }
 {
-    let mut left_texts = [0u8; 16384];
-    let mut left_places = [[0usize; 4]; 64];
-    let l = read(left, &mut left_texts, &mut left_places);
-    let left_number = l.number;
-    if 0 < left_number {
-        return write_refused(b"left", left_number, out);
-    }
-    let mut right_texts = [0u8; 16384];
-    let mut right_places = [[0usize; 4]; 64];
-    let r = read(right, &mut right_texts, &mut right_places);
-    let right_number = r.number;
-    if 0 < right_number {
-        return write_refused(b"right", right_number, out);
-    }
-    let mut found = [[0usize; 4]; 128];
-    let count = find_differences(
-        left,
-        &left_texts,
-        &left_places[..l.count],
-        right,
-        &right_texts,
-        &right_places[..r.count],
-        &mut found,
-    );
-    write_differences(&left_texts, &right_texts, &found[..count], out)
+    let mut left_ids = no_ids();
+    let l = match read(left, &mut left_ids) {
+        Ok(examined) => examined,
+        Err(refusal) => return write_refused(b"left", refusal.reason, out),
+    };
+    let mut right_ids = no_ids();
+    let r = match read(right, &mut right_ids) {
+        Ok(examined) => examined,
+        Err(refusal) => return write_refused(b"right", refusal.reason, out),
+    };
+    report_differences(left, &l, &left_ids, right, &r, &right_ids, out)
 }

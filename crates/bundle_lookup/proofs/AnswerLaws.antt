@@ -1,8 +1,14 @@
 -- The answer of the lookup as the code makes it, from the picks from both bundles in turn. Assumes nothing.
 use Prim.Native.Nat.{ℕ, suc, ◌<◌}
 use native.Mathlib.Omega.{arith}
-use mathlib.Core.Path.{◌≡◌, refl, sym, ap, ap₂, subst, ◌∙◌}
-use mathlib.Core.Bool.{Bool, true, false, ◌||◌}
+use mathlib.Core.Path.{◌≡◌, refl, sym, ap, subst, ◌∙◌}
+use mathlib.Core.Bool.{Bool, true, false, ◌||◌, cond}
+use Rattle.wire.specs.Stop.{Stop, go}
+use Rattle.wire.specs.Refusals.{number_of as number_of_reason, stop_by}
+use Rattle.wire.specs.declared.Reason.{Reason}
+use Rattle.wire.specs.declared.Reason.TheVariants as reasons
+use Rattle.wire.specs.declared.Refusal.{Refusal}
+use Rattle.bundle.proofs.AcceptLaws.{accepted}
 use mathlib.Core.List.{List, []}
 use borrow.Author.Tests.{eq-eqb, ne_eqb}
 use Rattle.wire.specs.Bytes.{empty}
@@ -14,29 +20,48 @@ use Rattle.bundle.specs.Pick.{compatible_at, pick_stop, pick}
 use Rattle.bundle.specs.Accepted.{Accepted}
 use Rattle.bundle.specs.Theorems.{refusal, Asked}
 use Rattle.bundle.specs.Lookup.{not_found, found_in, bundle_of, lookup, LookupExact}
+use Rattle.std.specs.Bool.{then_some}
+use Rattle.bundle.specs.Results.{source_number, named_number}
+use Rattle.bundle.specs.declared.Source.{Source}
 use Rattle.bundle.specs.declared.Checked.{Checked}
 use Rattle.bundle.specs.declared.Picked.{Picked}
 use Rattle.bundle.proofs.CheckLaws.{Own, bundle_stop-own}
 use Rattle.bundle.proofs.PickLaws.{pick-refused, pick-query, pick-none, picked-asked, pick-image}
 use Rattle.bundle.proofs.Theorems.{Case, refuses, unnamed, nothing, one, case, number_of, number_is, check_exact}
 use Rattle.bundle.proofs.LookupLaws.{lookup_exact}
-use Rattle.bundle_reader.specs.Examined.{pick_in_turn}
+use Rattle.bundle_reader.proofs.RefusalLaws.{number_suc}
 use Rattle.bundle_lookup.specs.Answer.{says_none, is_refused, named_by, answer_of, decided}
 
 -- ---- the bundle that a pick's answer names, and the bundle of a number
 
-module _ (number k : ℕ) where
-  pub named-query : number ≡ 9 → 0 ≡ named_by number k
-  unfolding named_by
-  named-query e = rw (eq-eqb number 9 e)
+named-own : (number k : ℕ) → (number ≡ 9 → ⊥) → (number ≡ 10 → ⊥) → k ≡ named_by number k
+unfolding named_by
+named-own number k q n = rw (ne_eqb number 9 q, ne_eqb number 10 n)
 
-  pub named_none : number ≡ 10 → 0 ≡ named_by number k
-  unfolding named_by
-  named_none e = rw e
-
-  pub named-own : (number ≡ 9 → ⊥) → (number ≡ 10 → ⊥) → k ≡ named_by number k
-  unfolding named_by
-  named-own q n = rw (ne_eqb number 9 q, ne_eqb number 10 n)
+-- the bundle that a refusal names
+pub named_is : (r : Reason) (source : Source) → named_number (then_some (is_refused (number_of_reason r)) source) ≡ named_by (number_of_reason r) (source_number source)
+unfolding named_by
+named_is reasons.Length source = refl
+named_is reasons.Magic source = refl
+named_is reasons.Count source = refl
+named_is reasons.Table source = refl
+named_is reasons.Id source = refl
+named_is reasons.Range source = refl
+named_is reasons.Twice source = refl
+named_is reasons.Mixed source = refl
+named_is reasons.Query source = refl
+named_is reasons.None source = refl
+named_is reasons.Big source = refl
+named_is reasons.Room source = refl
+named_is reasons.Head source = refl
+named_is reasons.Span source = refl
+named_is reasons.Kind source = refl
+named_is reasons.Strings source = refl
+named_is reasons.Image source = refl
+named_is reasons.Many source = refl
+named_is reasons.End source = refl
+named_is reasons.Overlap source = refl
+named_is reasons.Names source = refl
 
 module _ (patch main : List ℕ) (k : ℕ) where
   pub bundle-first : k ≡ 1 → bundle_of patch main k ≡ patch
@@ -97,10 +122,11 @@ module _ (R : IdRules) (L : Lawful R) (patch main device : List ℕ) where
   exact = lookup_exact R patch main device L
 
   abbrev first : Picked
-  first = (pick_in_turn R patch main device).first
+  first = pick R patch device
 
+  -- the pick from the main bundle where the patch says NONE; else what the check refuses it by, or 0
   abbrev second : Picked
-  second = (pick_in_turn R patch main device).second
+  second = cond (says_none (pick R patch device).number) (pick R main device) (refusal (check R main).number (check R main).place)
 
   abbrev Gives : Type 0
   Gives = decided first second ≡ lookup R patch main device
@@ -108,11 +134,9 @@ module _ (R : IdRules) (L : Lawful R) (patch main device : List ℕ) where
   -- ---- what comes of the main bundle
 
   second_none : says_none (pick R patch device).number ≡ true → second ≡ pick R main device
-  unfolding pick_in_turn
   second_none t = rw t
 
   second_other : says_none (pick R patch device).number ≡ false → second ≡ refusal (check R main).number (check R main).place
-  unfolding pick_in_turn
   second_other f = rw f
 
   second_refused : (k : ℕ) → (bundle_stop R main).number ≡ suc k → second ≡ refusal (bundle_stop R main).number (bundle_stop R main).place
@@ -126,13 +150,8 @@ module _ (R : IdRules) (L : Lawful R) (patch main device : List ℕ) where
 
   -- ---- by the cases of both
 
-  -- the first is the pick from the patch
-  first_is : first ≡ pick R patch device
-  unfolding pick_in_turn
-  first_is = refl
-
   gives : (q : Picked) → second ≡ q → decided (pick R patch device) q ≡ lookup R patch main device → Gives
-  gives q e h = ap₂ decided first_is e ∙ h
+  gives q e h = ap (decided first) e ∙ h
 
   main_stops : Accepted R patch → is_refused (pick R patch device).number ≡ false → (k : ℕ) → (bundle_stop R main).number ≡ suc k → Gives
   unfolding check
@@ -189,5 +208,36 @@ module _ (R : IdRules) (L : Lawful R) (patch main device : List ℕ) where
   by_cases (one e) (nothing b g) = image_stays e b.bundle
   by_cases (one e) (one f) = image_stays e (picked-asked R main device f).bundle
 
-  pub decided_is : Gives
+  decided_is : Gives
   decided_is = by_cases (case R patch device) (case R main device)
+
+  -- ---- by what comes of the two in turn
+
+  -- the patch says NONE
+  pub found_second : first.number ≡ 10 → (q : Picked) → q ≡ pick R main device → answer_of 2 q ≡ lookup R patch main device
+  found_second z q e =
+      let t : says_none first.number ≡ true = eq-eqb first.number 10 z in
+      ap (answer_of 2) (e ∙ sym (second_none t))
+      ∙ decided_main first second (rw z) (ap (λ b. is_refused second.number || b) t ∙ or_true (is_refused second.number))
+      ∙ decided_is
+
+  module _ (other : first.number ≡ 10 → ⊥) where
+    f : says_none first.number ≡ false
+    f = ne_eqb first.number 10 other
+
+    pub found_first : is_refused first.number ≡ true → answer_of 1 first ≡ lookup R patch main device
+    found_first t = decided-first first second t ∙ decided_is
+
+    module _ (stays : is_refused first.number ≡ false) where
+      pub found_main : (r : Refusal) → stop_by r ≡ bundle_stop R main → answer_of 2 (refusal (number_of_reason r.reason) r.place) ≡ lookup R patch main device
+      found_main r e =
+          let (k, q) = number_suc r.reason in
+          let n : (bundle_stop R main).number ≡ suc k = ap (λ (t : Stop). t.number) (sym e) ∙ q in
+          let w : second ≡ refusal (number_of_reason r.reason) r.place = second_refused k n ∙ ap (λ (t : Stop). refusal t.number t.place) (sym e) in
+          let t : is_refused second.number ≡ true = ap (λ (p : Picked). is_refused p.number) w ∙ ap is_refused q ∙ refuses_own R main device k n in
+          ap (answer_of 2) (sym w) ∙ decided_main first second stays (ap (λ b. b || says_none first.number) t) ∙ decided_is
+
+      pub found_patch : go ≡ bundle_stop R main → answer_of 1 first ≡ lookup R patch main device
+      found_patch e =
+          let w : second ≡ refusal 0 0 = second_checked (accepted R main (ap (λ (t : Stop). t.number) (sym e))) f in
+          decided-patch first second stays (ap (λ (p : Picked). is_refused p.number || says_none first.number) w ∙ f) ∙ decided_is

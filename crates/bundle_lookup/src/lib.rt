@@ -2,114 +2,96 @@
 #![tactic(auto)]
 
 ghost use Rattle.std.specs.Prelude.{◌≡◌, ◌+◌, ◌≤◌, length, take, drop};
+ghost use Rattle.wire.specs.Refusals.{number_of};
 ghost use Rattle.entry_id.specs.Rules.{id_rules};
 ghost use Rattle.bundle.specs.Lookup.{numbers_of, bundle_of, lookup, lookup_image};
-ghost use Rattle.bundle_lookup.specs.Answer.{says_none, is_refused, named_by, answer_of, decided};
+ghost use Rattle.bundle.specs.Results.{picked_of, source_number, found_of};
+ghost use Rattle.bundle_lookup.specs.Answer.{is_refused, answer_of};
 
-use bundle::{Found, Picked};
+use bundle::{Found, Image, LookupRefusal, PickedInTurn, Source, SourceImage};
+use wire::{Reason, Refusal};
 
-// The refusals of a pick that concern no bundle.
-const QUERY: usize = 9;
-
-const NONE: usize = 10;
-
-// The numbers of the two bundles.
-const PATCH: usize = 1;
-
-const MAIN: usize = 2;
-
-// A pick says that there is no image. One of size 0 is an image.
-fn says_none(p: Picked) -> bool
-    ensures { result ≡ says_none p.number }
+// The check refuses a bundle for this reason: QUERY and NONE concern no bundle.
+fn of_check(reason: Reason) -> bool
+    ensures { result ≡ is_refused (number_of reason) }
 {
-    p.number == NONE
-}
-
-// A pick is refused by what the check of its bundle refuses, and not by QUERY or NONE.
-fn refused(p: Picked) -> bool
-    ensures { result ≡ is_refused p.number }
-{
-    (p.number != 0) & (p.number != QUERY) & (p.number != NONE)
-}
-
-// The bundle that an answer names, of a pick from this bundle: QUERY and NONE name none.
-fn named(number: usize, bundle: usize) -> usize
-    ensures { result ≡ named_by number bundle }
-{
-    if number == QUERY {
-        return 0;
-    }
-    if number == NONE {
-        return 0;
-    }
-    bundle
-}
-
-// The answer that a pick from this bundle gives.
-fn answer_of(p: Picked, bundle: usize) -> Found
-    ensures { result ≡ answer_of bundle p }
-{
-    let number = p.number;
-    Found {
-        number,
-        place: p.place,
-        bundle: named(number, bundle),
-        position: p.position,
-        size: p.size,
+    match reason {
+        Reason::Query => false,
+        Reason::None => false,
+        _ => true,
     }
 }
 
-// What the pick from the patch gives, and what comes of the main bundle: what refuses the patch comes first, then what refuses the main bundle, which also
-// answers where the patch says NONE.
-fn decide(p: Picked, q: Picked) -> Found
-    ensures { result ≡ decided p q }
+// The answer that a pick from this bundle gives. An image of size 0 is one.
+fn answer(source: Source, picked: Result<Image, Refusal>) -> Result<SourceImage, LookupRefusal>
+    ensures { found_of result ≡ answer_of (source_number source) (picked_of picked) }
 {
-    if refused(p) {
-        return answer_of(p, PATCH);
+    match picked {
+        Ok(image) => Ok(SourceImage { source, image }),
+        Err(refusal) => Err(LookupRefusal {
+            refusal,
+            source: of_check(refusal.reason).then_some(source),
+        }),
     }
-    if refused(q) | says_none(p) {
-        return answer_of(q, MAIN);
-    }
-    answer_of(p, PATCH)
 }
 
-// The image for a device name: the bundle that holds it, and where it lies there. Each bundle is checked once, and the name is
-// made canonical once.
-pub fn find_image(patch: &[u8], main: &[u8], device: &[u8]) -> Found
-    ensures { result ≡ lookup id_rules patch.now main.now device.now }
+// The pick from the patch refuses by what the check of the patch refuses.
+fn stops(picked: Result<Image, Refusal>) -> bool
+    ensures { result ≡ is_refused (picked_of picked).number }
 {
-    let picked = bundle_reader::pick_in_turn(patch, main, device);
-    let p = picked.first;
-    let q = picked.second;
-    decide(p, q)
+    match picked {
+        Ok(_) => false,
+        Err(refusal) => of_check(refusal.reason),
+    }
 }
 
-// `size` bytes of s from `start` on.
-fn part(s: &[u8], start: usize, size: usize) -> &[u8]
-    requires { start + size ≤ length s.now }
-    ensures { result.now ≡ take size (drop start s.now) }
+// The image for a device name: the bundle that holds it, and where it lies there. Each bundle is checked once, and the name is made canonical once. What
+// refuses the patch comes first, then what refuses the main bundle, which answers where the patch says NONE.
+pub fn find_image(patch: &[u8], main: &[u8], device: &[u8]) -> Result<SourceImage, LookupRefusal>
+    ensures { found_of result ≡ lookup id_rules patch.now main.now device.now }
 {
-    &s[start..start + size]
+    match bundle_reader::pick_in_turn(patch, main, device) {
+        PickedInTurn::Second(picked) => answer(Source::Main, picked),
+        PickedInTurn::First { picked, checked } => {
+            if stops(picked) {
+                return answer(Source::Patch, picked);
+            }
+            match checked {
+                Err(refusal) => answer(Source::Main, Err(refusal)),
+                Ok(_) => answer(Source::Patch, picked),
+            }
+        }
+    }
+}
+
+// The bytes of an image. Nothing is cut off or left out here, as `part_of` of names and `bytes_at` of binaries do: an answer lies inside.
+fn part(s: &[u8], image: Image) -> &[u8]
+    requires { image.position + image.size ≤ length s.now }
+    ensures { result.now ≡ take image.size (drop image.position s.now) }
+{
+    &s[image.position..image.position + image.size]
 }
 
 // The part of the bundles that an answer names.
-fn part_of<'a>(patch: &'a [u8], main: &'a [u8], f: Found) -> &'a [u8]
-    requires { f.position + f.size ≤ length (bundle_of patch.now main.now f.bundle) }
-    ensures { result.now ≡ take f.size (drop f.position (bundle_of patch.now main.now f.bundle)) }
+fn part_of<'a>(
+    patch: &'a [u8],
+    main: &'a [u8],
+    found: Result<SourceImage, LookupRefusal>,
+) -> &'a [u8]
+    requires { (found_of found).position + (found_of found).size ≤ length (bundle_of patch.now main.now (found_of found).bundle) }
+    ensures { result.now ≡ take (found_of found).size (drop (found_of found).position (bundle_of patch.now main.now (found_of found).bundle)) }
 {
-    let bundle = f.bundle;
-    let start = f.position as usize;
-    let size = f.size as usize;
-    if bundle == PATCH {
-        return part(patch, start, size);
+    match found {
+        Ok(found) => match found.source {
+            Source::Patch => part(patch, found.image),
+            Source::Main => part(main, found.image),
+        },
+        Err(_) => &main[..0],
     }
-    if bundle == MAIN {
-        return part(main, start, size);
-    }
-    &main[..0]
 }
 
 // The image itself, a part of the bundle that holds it, empty on a refusal; its number, place, bundle, position and size go to `numbers`.
+// The numbers are a list of five, as the definition `numbers_of` has them. `usize` and `u64` both have 64 bits here, and std has no `From` between them.
 pub fn lookup<'a>(
     patch: &'a [u8],
     main: &'a [u8],
@@ -119,7 +101,8 @@ pub fn lookup<'a>(
     ensures result_value { result.now ≡ lookup_image id_rules patch.now main.now device.now }
     ensures numbers_after { numbers.new ≡ numbers_of (lookup id_rules patch.now main.now device.now) }
 {
-    let f = find_image(patch, main, device);
+    let found = find_image(patch, main, device);
+    let f = Found::from(found);
     *numbers = [
         f.number as u64,
         f.place as u64,
@@ -127,5 +110,5 @@ pub fn lookup<'a>(
         f.position,
         f.size,
     ];
-    part_of(patch, main, f)
+    part_of(patch, main, found)
 }

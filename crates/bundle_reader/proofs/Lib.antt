@@ -1,9 +1,9 @@
-pub mod RowLaws
-pub mod SlotLaws
-pub mod StageLaws
-pub mod RecordLaws
-pub mod ChoiceLaws
-pub mod LocatedLaws
+pub mod RefusalLaws
+pub mod FilledLaws
 pub mod IdLaws
+pub mod RowLaws
 pub mod OverlapLaws
+pub mod CheckLaws
+pub mod PickLaws
 pub mod EachLaws
+pub mod ExamineLaws

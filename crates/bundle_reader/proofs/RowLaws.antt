@@ -1,23 +1,19 @@
--- Laws of the rows that the code holds. Assumes nothing.
-use Prim.Native.Nat.{ℕ, ◌+◌, ◌<◌, ◌≤◌}
+-- Rows that were read. Assumes nothing.
+use Prim.Native.Nat.{ℕ, ◌+◌, ◌-◌, ◌<◌, ◌≤◌}
 use native.Mathlib.Omega.{arith}
 use native.Mathlib.Numerals.{add-one}
 use mathlib.Core.Path.{◌≡◌, sym, ap, ◌∙◌}
-use mathlib.Core.Bool.{Bool, true, false}
+use mathlib.Core.Bool.{Bool, false}
 use mathlib.Core.List.{List}
-use lib.ListN.{length, get_or, set, replicate, length-replicate}
-use Rattle.wire.specs.Word.{word}
-use Rattle.wire.specs.First.{first}
-use Rattle.wire.proofs.FirstLaws.{first_is, first-none}
-use Rattle.bundle.specs.Table.{row_start, row, row_at}
+use lib.ListN.{length, take, drop}
+use Rattle.bundle.specs.Table.{count, row_start, row, row_at}
 use Rattle.bundle.specs.Check.{bad_row}
-use Rattle.bundle.specs.Accepted.{RowFits}
+use Rattle.bundle.specs.Accepted.{RowFits, Framed}
 use Rattle.bundle.specs.Records.{no_record, record_at, row_of, rows_of}
-use Rattle.bundle_reader.specs.Examined.{held_row, rows_in}
-use Rattle.bundle_reader.specs.Slots.{Rows}
-use Rattle.bundle_reader.proofs.SlotLaws.{filled_at, filled_more}
 use Rattle.bundle.specs.declared.EntryRecord.{EntryRecord}
 use Rattle.bundle.proofs.CheckLaws.{row_fits}
+use Rattle.bundle_reader.specs.Examined.{filled, held_row, row_held}
+use Rattle.bundle_reader.proofs.FilledLaws.{length-filled, front-length, front_at}
 
 pub fine : (s : List ℕ) (at : ℕ) (b : Bool) → b ≡ bad_row s at → b ≡ false → RowFits s at
 fine s at b p q = (row_fits s at).0 (sym p ∙ q)
@@ -26,44 +22,45 @@ pub row_inside : (s : List ℕ) (at : ℕ) (r : EntryRecord) → r ≡ held_row 
 unfolding held_row
 row_inside s at r e f = rw e f.id_in
 
--- ---- loops over the rows, at the start of row i
+-- the row that is read at the start of row i
+module _ (s : List ℕ) (i at : ℕ) (e : at ≡ row_start s i) (r : EntryRecord) (q : r ≡ held_row s at) where
+  pub row_is : r ≡ row_held s i
+  row_is = q ∙ ap (held_row s) e
 
-module _ (s : List ℕ) (i at : ℕ) (e : at ≡ row_start s i) where
-  pub next_start : at + 24 + word 8 s (at + 16) ≡ row_start s (i + 1)
-  unfolding row_start
-  next_start = ap (λ z. z + 24 + word 8 s (z + 16)) e ∙ rw add-one
+  pub row_next : r.id_start + r.id_len ≡ row_start s (i + 1)
+  unfolding held_row row_start
+  row_next = ap (λ z. z.id_start + z.id_len) row_is ∙ rw add-one
 
-  pub row_here : RowFits s (row_start s i) → RowFits s at
-  row_here f = rw e f
+-- row k, from its record
+pub row_meant : (s : List ℕ) (k : ℕ) (r : EntryRecord) → r ≡ row_held s k → row_of s r ≡ row s k
+unfolding row_of held_row row row_at
+row_meant s k r e = ap (row_of s) e
 
-  -- the rows before it are not bad
-  module _ (passed : (k : ℕ) → k < i → bad_row s (row_start s k) ≡ false) where
-    pub bad_first : (n : ℕ) (b : Bool) → i < n → b ≡ bad_row s at → b ≡ true → i ≡ first n (λ k. bad_row s (row_start s k))
-    bad_first n b h u v = sym (first_is n (λ k. bad_row s (row_start s k)) i h (ap (bad_row s) (sym e) ∙ sym u ∙ v) passed)
+-- the rows of s, in the first n places
+module _ (s : List ℕ) (n : ℕ) (rows₀ rows : List EntryRecord) (size : n ≡ count s) (e : rows ≡ filled rows₀ (count s) (row_held s)) (room : count s ≤ length rows₀) where
+  held : rows ≡ filled rows₀ n (row_held s)
+  held = e ∙ ap (λ m. filled rows₀ m (row_held s)) (sym size)
 
-    pub bad_none : (n : ℕ) → i ≡ n → i ≡ first n (λ k. bad_row s (row_start s k))
-    bad_none n z = z ∙ sym (first-none n (λ k. bad_row s (row_start s k)) (λ k h. passed k (omega arith)))
+  pub rows_room : n ≤ length rows
+  rows_room = omega (arith, size, room, ap length e, length-filled rows₀ (count s) (row_held s))
 
-  -- the row that is read there
-  module _ (r : EntryRecord) (q : r ≡ held_row s at) where
-    pub row_next : r.id_start + r.id_len ≡ row_start s (i + 1)
-    unfolding held_row
-    row_next = ap (λ z. z.id_start + z.id_len) q ∙ next_start
+  pub rows-length : length (take n rows) ≡ n
+  rows-length = front-length rows₀ n (row_held s) rows held (omega (arith, size, room))
 
-    pub row_is : row_of s r ≡ row s i
-    unfolding row_of held_row row row_at
-    row_is = ap (row_of s) (q ∙ ap (held_row s) e)
+  pub rows_at : (k : ℕ) → k < n → record_at (take n rows) k ≡ row_held s k
+  unfolding record_at
+  rows_at k h = front_at rows₀ n (row_held s) rows held (omega (arith, size, room)) no_record k h
 
-    pub rows_more : (rows : List EntryRecord) → rows ≡ rows_in s i → set rows i r ≡ rows_in s (i + 1)
-    unfolding rows_in
-    rows_more rows p = filled_more (replicate 64 no_record) i (λ k. held_row s (row_start s k)) rows r p (q ∙ ap (held_row s) e)
+  pub rows_are : (k : ℕ) → k < count s → rows_of s (take n rows) k ≡ row s k
+  unfolding rows_of
+  rows_are k h = row_meant s k _ (rows_at k (omega (arith, size)))
 
--- ---- rows that were read
+  pub rows_inside : Framed s → (k : ℕ) → k < length (take n rows) → (record_at (take n rows) k).id_start + (record_at (take n rows) k).id_len ≤ length s
+  rows_inside f k h =
+      let l : k < n = omega (arith, rows-length) in
+      row_inside s (row_start s k) (record_at (take n rows) k) (rows_at k l) (f.rows k (omega (arith, size)))
 
-row_held : (s : List ℕ) (n : ℕ) (rows : List EntryRecord) → Rows s n rows → (k : ℕ) → k < n → get_or rows k no_record ≡ held_row s (row_start s k)
-unfolding rows_in
-row_held s n rows r k h = ap (λ z. get_or z k no_record) r.are ∙ filled_at (replicate 64 no_record) n (λ k. held_row s (row_start s k)) no_record (omega (arith, r.few, length-replicate 64 no_record)) k h
-
-pub rows_are : (s : List ℕ) (n : ℕ) (rows : List EntryRecord) → Rows s n rows → (k : ℕ) → k < n → rows_of s rows k ≡ row s k
-unfolding rows_of record_at row_of held_row row row_at
-rows_are s n rows r k h = ap (row_of s) (row_held s n rows r k h)
+-- the ID of a record, as it is cut
+pub part_id : (s : List ℕ) (r : EntryRecord) → take (r.id_start + r.id_len - r.id_start) (drop r.id_start s) ≡ (row_of s r).id
+unfolding row_of
+part_id s r = let e : r.id_start + r.id_len - r.id_start ≡ r.id_len = omega arith in ap (λ n. take n (drop r.id_start s)) e

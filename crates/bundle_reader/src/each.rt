@@ -1,20 +1,24 @@
 // The pick for each of several device names, from a bundle that is checked once.
-ghost use Rattle.std.specs.Prelude.{◌≡◌, ℕ, ◌<◌, ◌≤◌, ltb, length};
+ghost use Rattle.std.specs.Prelude.{◌≡◌, ℕ, ◌<◌, ◌≤◌, IfOk, length};
 ghost use Rattle.wire.specs.Bits.{bits_below};
+ghost use Rattle.wire.specs.First.{any_below};
 ghost use Rattle.wire.specs.Lists.{tab};
-ghost use Rattle.wire.specs.Stop.{stop, ◌⨾◌, stop_if, over};
+ghost use Rattle.wire.specs.Stop.{over};
 ghost use Rattle.entry_id.specs.Rules.{id_rules};
-ghost use Rattle.bundle.specs.Table.{count, row_start};
-ghost use Rattle.bundle.specs.Accepted.{RowFits};
-ghost use Rattle.bundle.specs.Each.{part_of, slot_of, pick_at, taken, no_picks, pick_each, slots_after};
-ghost use Rattle.bundle_reader.specs.Examined.{held_row};
-ghost use Rattle.bundle_reader.specs.Slots.{starts_in, Room, Pickable, choice_pick, takes};
+ghost use Rattle.bundle.specs.Table.{count};
+ghost use Rattle.bundle.specs.Each.{part_of, slot_of, pick_each, slots_after};
+ghost use Rattle.bundle.specs.Results.{picked_of, picked_each_of};
+ghost use Rattle.bundle_reader.specs.Slots.{takes, picked_at};
 
-use crate::{Choice, Refusal, check_in, choose, next_row, refused, row_at};
-use bundle::{Checked, PickedEach};
+use crate::choice::pick_from;
+use crate::entries::check_in;
+use crate::id::CanonicalId;
+use bundle::{EntryRecord, Image, Picked, Picks};
 use entry_id::Reading;
+use wire::{Reason, Refusal};
 
 // The bytes of a part, its start and its length, of a buffer; none of one outside. The sum is never made, so it cannot wrap.
+// Not cut, as `bytes_at` of offload binaries cuts: the definition `part_of` has no bytes of a part that goes past the end.
 fn part_of(buffer: &[u8], part: [u64; 2]) -> &[u8]
     ensures { result.now ≡ part_of buffer.now part }
 {
@@ -30,136 +34,73 @@ fn part_of(buffer: &[u8], part: [u64; 2]) -> &[u8]
     &rest[..len]
 }
 
-// Where each of n rows starts. Only lengths are read.
-fn row_starts(s: &[u8], n: usize) -> [usize; 64]
-    requires { (n ≤ 64) × ((k : ℕ) → k < n → RowFits s.now (row_start s.now k)) }
-    ensures { result ≡ starts_in s.now n }
+// The numbers of a pick: number, index, position and size.
+fn slot_of(picked: Result<Image, Refusal>) -> [u64; 4]
+    ensures { result ≡ slot_of (picked_of picked) }
 {
-    let mut starts = [0usize; 64];
-    let mut i: usize = 0;
-    let mut at: usize = 32;
-    while i < n {
-        starts[i] = at;
-        at = next_row(s, at);
-        i += 1;
-    }
-    starts
+    let p = Picked::from(picked);
+    [p.number as u64, p.index as u64, p.position, p.size]
 }
 
-// The slot of a choice; the row of the entry chosen starts at `at`.
-fn slot_of(s: &[u8], chosen: Choice, at: usize) -> [u64; 4]
-    requires { chosen.number ≡ 0 → RowFits s.now at }
-    ensures { result ≡ slot_of (choice_pick chosen (held_row s.now at)) }
+// The bit of the entry that a pick takes, or 0.
+// A bit of a number: the definition `pick_each` has such a word, and C gets it.
+fn taken_bit(picked: Result<Image, Refusal>) -> u64
+    requires { IfOk picked (λ image. image.index < 64) }
+    ensures { result ≡ bits_below 64 (takes picked) }
 {
-    let refusal = chosen.number;
-    if 0 < refusal {
-        return [refusal as u64, 0, 0, 0];
+    match picked {
+        Ok(image) => 1u64 << image.index,
+        Err(_) => 0,
     }
-    let row = row_at(s, at);
-    [
-        0,
-        chosen.index as u64,
-        row.image_start as u64,
-        row.image_len as u64,
-    ]
 }
 
-// The bit of the entry that a choice takes, or 0.
-fn taken_bit(chosen: Choice) -> u64
-    requires { chosen.index < 64 }
-    ensures { result ≡ bits_below 64 (takes chosen) }
-{
-    let refusal = chosen.number;
-    if 0 < refusal {
-        return 0;
-    }
-    1u64 << chosen.index
-}
-
-// The slots of the names, from an accepted bundle of n entries, and the word of the entries taken. The table is walked once for all names.
+// The slots of the names, and the word of the entries taken.
 fn fill_slots(
-    s: &[u8],
-    n: usize,
+    rows: &[EntryRecord],
+    ids: &[CanonicalId],
     buffer: &[u8],
     names: &[[u64; 2]],
     slots: &mut [[u64; 4]],
-    texts: &[u8],
-    lens: &[usize],
-    keys: &[u64],
 ) -> u64
-    requires { Pickable id_rules s.now texts.now lens.now keys.now n × (length names.now ≤ 16) × (length names.now ≤ length slots.old) }
-    ensures { (result ≡ bits_below 64 (taken id_rules s.now buffer.now names.now)) × (slots.new ≡ over (tab (length names.now) (λ k. slot_of (pick_at id_rules s.now buffer.now names.now k))) slots.old) }
+    requires room { length names.now ≤ length slots.old }
+    requires few { (length ids.now ≤ length rows.now) × (length ids.now ≤ 64) }
+    ensures word { result ≡ bits_below 64 (λ i. any_below (length names.now) (λ k. takes (picked_at rows.now ids.now buffer.now names.now k) i)) }
+    ensures slots_after { slots.new ≡ over (tab (length names.now) (λ k. slot_of (picked_of (picked_at rows.now ids.now buffer.now names.now k)))) slots.old }
 {
-    let starts = row_starts(s, n);
-    let mut word: u64 = 0;
-    let mut k: usize = 0;
-    while k < names.len() {
-        let name = part_of(buffer, names[k]);
-        let chosen = choose(Reading::General, n, name, texts, lens, keys);
-        let i = chosen.index;
-        slots[k] = slot_of(s, chosen, starts[i]);
-        word = word | taken_bit(chosen);
-        k += 1;
+    let mut word = 0;
+    for k in 0..names.len() {
+        let name = CanonicalId::of(Reading::General, part_of(buffer, names[k]));
+        let picked = pick_from(rows, ids, &name);
+        slots[k] = slot_of(picked);
+        word = word | taken_bit(picked);
     }
     word
 }
 
-// What refuses a call with so many names and slots: what the check did, 23 RACK, 12 ROOM; else 0.
-fn each_refusal(c: Checked, names: usize, slots: usize) -> Refusal
-    ensures { stop result.number result.place ≡ stop c.number c.place ⨾ stop_if 23 (ltb 16 names) ⨾ stop_if 12 (ltb slots names) }
-{
-    let checked = c.number;
-    if 0 < checked {
-        return refused(checked, c.place);
-    }
-    if 16 < names {
-        return refused(23, 0);
-    }
-    if slots < names {
-        return refused(12, 0);
-    }
-    refused(0, 0)
-}
-
-// The refusal of the whole call.
-fn no_picks(number: usize, place: usize) -> PickedEach
-    ensures { result ≡ no_picks number place }
-{
-    PickedEach {
-        number,
-        place,
-        slots: 0,
-        word: 0,
-        taken: 0,
-    }
-}
-
-// The pick for each name, with the canonical IDs of the bundle in scratch.
+// The pick for each name, in scratch: 1 to 8 and 21, 23 RACK, 12 ROOM.
 pub(crate) fn pick_each_in(
     bundle: &[u8],
     buffer: &[u8],
     names: &[[u64; 2]],
     slots: &mut [[u64; 4]],
-    texts: &mut [u8],
-    lens: &mut [usize],
-    keys: &mut [u64],
-) -> PickedEach
-    requires { count bundle.now ≤ 64 → Room (count bundle.now) texts.old lens.old keys.old }
-    ensures { (result ≡ pick_each id_rules bundle.now buffer.now names.now (length slots.old)) × (slots.new ≡ slots_after id_rules bundle.now buffer.now names.now slots.old) }
+    rows: &mut [EntryRecord],
+    ids: &mut [CanonicalId],
+) -> Result<Picks, Refusal>
+    requires { count bundle.now ≤ 64 → (count bundle.now ≤ length rows.old) × (count bundle.now ≤ length ids.old) }
+    ensures value { picked_each_of result ≡ pick_each id_rules bundle.now buffer.now names.now (length slots.old) }
+    ensures slots_after { slots.new ≡ slots_after id_rules bundle.now buffer.now names.now slots.old }
 {
-    let c = check_in(Reading::General, bundle, texts, lens, keys);
-    let r = each_refusal(c, names.len(), slots.len());
-    let number = r.number;
-    let place = r.place;
-    if 0 < number {
-        return no_picks(number, place);
+    let n = check_in(Reading::General, bundle, rows, ids)?;
+    if 16 < names.len() {
+        return Err(Reason::Names.at(0));
     }
-    let word = fill_slots(bundle, c.count, buffer, names, slots, texts, lens, keys);
-    PickedEach {
-        number,
-        place,
+    if slots.len() < names.len() {
+        return Err(Reason::Room.at(0));
+    }
+    let word = fill_slots(&rows[..n], &ids[..n], buffer, names, slots);
+    Ok(Picks {
         slots: names.len(),
         word,
-        taken: u64::count_ones(word) as usize,
-    }
+        taken: word.count_ones() as usize,
+    })
 }

@@ -9,7 +9,8 @@ use Rattle.entry_id.proofs.ProcessorLaws.{named_more}
 use Rattle.entry_id.specs.Meaning.{fields_of, pieces_of, field_byte, processor_byte, processor_shaped, names_processor, fifth_is_processor, meaning_of, meaning, six_fields, kinds, valid}
 use Rattle.entry_id.specs.Canonical.{head_of}
 use Rattle.entry_id.specs.Scan.{part, Run, ends_at, pieces_at}
-use Rattle.canonical_form.specs.Heads.{Triple, ProcessorAt, HeadAt, HeadIs}
+use Rattle.canonical_form.specs.Heads.{Triple, ProcessorAt, HeadAt}
+use Rattle.canonical_form.specs.declared.head.Head.{Head}
 use Rattle.entry_id.proofs.RunLaws.{part_none, part-drop, part_length, part_cons, take_step, byte_inside, head_stops, head_part, pieces_part}
 use Rattle.canonical_form.proofs.CutLaws.{first_through, skip_fields, skip_pieces, last_fields, bad_field}
 use Rattle.canonical_form.proofs.HeadLaws.{valid-parts, valid-system, valid_fifth, not_t, no_field}
@@ -40,14 +41,9 @@ named_some y = some (get_or (split_on 58 y) 0 [])
 
 -- ---- what the scan found
 
-pub head_yes : {x : List ℕ} {at dashes stop at' dashes' stop' : ℕ} {proc ok proc' : Bool} → HeadAt x at dashes stop proc → (ok ≡ true) × ((at' ≡ at) × ((dashes' ≡ dashes) × ((stop' ≡ stop) × (proc' ≡ proc)))) → HeadIs x ok at' dashes' stop' proc'
-head_yes h e = record {
-  found = λ t. rw (e.1.0, e.1.1.0, e.1.1.1.0, e.1.1.1.1) h;
-  refused = λ t. let z : ◌≡◌ {A = Bool} true false = sym e.0 ∙ t in absurd (subst T z tt);
-}
-
-pub head_no : {x : List ℕ} {at dashes stop : ℕ} {proc ok : Bool} → valid x ≡ false → ok ≡ false → HeadIs x ok at dashes stop proc
-head_no v e = record { found = λ t. let z : ◌≡◌ {A = Bool} true false = sym t ∙ e in absurd (subst T z tt); refused = λ t. v }
+-- the head that was found
+abbrev pub head : ℕ → ℕ → ℕ → Bool → Head
+head at dashes stop processor = record { at = at; dashes = dashes; stop = stop; processor = processor }
 
 module _ (x : List ℕ) (d : ℕ) (t : Triple x d) where
   -- six fields
@@ -76,7 +72,7 @@ module _ (x : List ℕ) (d : ℕ) (t : Triple x d) where
         ap (join_with 45) f ∙ j ∙ sym w
 
     pub head_at : (at dashes stop : ℕ) (proc : Bool) → proc ≡ not (empty p) → 4 ≤ length (fields_of x) → dashes ≤ 2 → at ≤ stop → stop ≤ length x → ends_at x stop ≡ true
-        → take d x ++ 45 ∷ e ++ 45 ∷ p ≡ take at x ++ replicate dashes 45 ++ part x at stop → pieces_of x ≡ pieces_at x stop → HeadAt x at dashes stop proc
+        → take d x ++ 45 ∷ e ++ 45 ∷ p ≡ take at x ++ replicate dashes 45 ++ part x at stop → pieces_of x ≡ pieces_at x stop → HeadAt x (head at dashes stop proc)
     unfolding six_fields
     head_at at dashes stop proc q n few pl w en fo pi = record {
       kind_in = subst (λ (l : List (List ℕ)). T (any (same (get_or l 0 [])) kinds)) (sym f) t.kind_in;
@@ -105,7 +101,7 @@ module _ (x : List ℕ) (d : ℕ) (t : Triple x d) where
   four_are : ends_at x d ≡ true → fields_of x ≡ t.kind ∷ t.arch ∷ t.vendor ∷ t.system ∷ []
   four_are e = t.fields_are ∙ ap (λ l. t.kind ∷ t.arch ∷ t.vendor ∷ l) ((last_fields x t.start d t.run e).0 ∙ ap (λ s. s ∷ []) (sym t.system_is))
 
-  pub four : ends_at x d ≡ true → HeadAt x d 2 d false
+  pub four : ends_at x d ≡ true → HeadAt x (head d 2 d false)
   unfolding meaning meaning_of six_fields fifth_is_processor names_processor processor_shaped same join_with every empty
   four e =
       let f = four_are e in
@@ -168,7 +164,7 @@ module _ (x : List ℕ) (d e : ℕ) (g : Fifth x d e) where
     pub fifth_bad : processor_shaped (head_of (drop (suc d) x)) ≡ false → valid x ≡ false
     fifth_bad = bad_processor x d t [] (head_of (drop (suc d) x)) fifth_meant
 
-    pub fifth_proc : (p : ℕ) → ProcessorAt x (suc d) p → HeadAt x d 1 p true
+    pub fifth_proc : (p : ℕ) → ProcessorAt x (suc d) p → HeadAt x (head d 1 p true)
     unfolding every
     fifth_proc p h =
         let r = h.run in
@@ -180,7 +176,7 @@ module _ (x : List ℕ) (d e : ℕ) (g : Fifth x d e) where
   -- ---- the fifth field is the environment
 
   module _ (pr : names_processor (part x (suc d) e) ≡ false) where
-    pub env_last : ends_at x e ≡ true → HeadAt x e 1 e false
+    pub env_last : ends_at x e ≡ true → HeadAt x (head e 1 e false)
     unfolding meaning meaning_of six_fields fifth_is_processor processor_shaped join_with every empty
     env_last n =
         let f = more_are ∙ ap four_and (last_fields x (suc d) e re n).0 in
@@ -215,7 +211,7 @@ module _ (x : List ℕ) (d e : ℕ) (g : Fifth x d e) where
             (λ b. b ∙ sym (sym (length_some (part x (suc e) p)) ∙ lt-ltb 0 (length (part x (suc e) p)) (omega (arith, l, ltb-true (suc e) p b))))
             (λ b. b ∙ sym (sym (length_some (part x (suc e) p)) ∙ le-ltb 0 (length (part x (suc e) p)) (omega (arith, l, ltb-false (suc e) p b))))
 
-        pub sixth_proc : HeadAt x p 0 p (ltb (suc e) p)
+        pub sixth_proc : HeadAt x (head p 0 p (ltb (suc e) p))
         sixth_proc =
             head_at x d t (part x (suc d) e) (part x (suc e) p) (sixth_meant ∙ ap (six_with (part x (suc d) e)) (head_part x (suc e) p rp)) re.passed h.shaped
             p 0 p (ltb (suc e) p) proc_there least (omega arith) (omega arith) rp.high (head_stops x (suc e) p rp)

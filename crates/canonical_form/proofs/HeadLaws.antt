@@ -1,5 +1,6 @@
 -- What the scan of the head finds, against `fields_of` and `valid`. Assumes nothing.
 use Rattle.std.proofs.Common.{◌≡◌, ℕ, suc, ◌<◌, ◌≤◌, Bool, true, false, cond, not, T, leb, ◌≢◌, List, [], ◌∷◌, ◌++◌, length, get_or, take, drop, refl, ap, ◌∙◌, subst, append_assoc, arith, leb→le, get_or-drop}
+use Rattle.std.proofs.Common.{Option, Some, None, MatchOption}
 use Rattle.wire.specs.Lists.{any, every}
 use Rattle.wire.specs.Bytes.{same, empty}
 use Rattle.wire.proofs.Bools.{by_bool, and_l, and_r, and_t, is_false, of_true}
@@ -11,6 +12,11 @@ use Rattle.entry_id.specs.Scan.{part, Run}
 use Rattle.canonical_form.specs.Heads.{Next, Triple, filled}
 use Rattle.entry_id.proofs.RunLaws.{part_none, part_start, part_length, take_step, byte_inside, some_of}
 use Rattle.canonical_form.proofs.CutLaws.{at_dash, at_end, at_bad, cut, skip_fields, skip_pieces}
+
+-- of two facts by cases, the one that follows from the other
+pub match_then : {A : Type 0} {P P' : Type 0} {Q Q' : A → Type 0} (o : Option A) → MatchOption o P Q → (P → P') → ((x : A) → Q x → Q' x) → MatchOption o P' Q'
+match_then None m f g = f m
+match_then (Some x) m f g = g x m
 
 -- ---- filled
 

@@ -9,3 +9,4 @@ pub mod PieceLaws
 pub mod SpanLaws
 pub mod PlanLaws
 pub mod KeyLaws
+pub mod MadeLaws

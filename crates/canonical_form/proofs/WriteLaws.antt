@@ -1,18 +1,12 @@
 -- The canonical form written part by part. Assumes nothing.
-use Rattle.std.proofs.Common.{◌≡◌, ℕ, zero, suc, ◌+◌, ◌-◌, ◌<◌, ◌≤◌, List, [], ◌∷◌, ◌++◌, length, get_or, take, drop, replicate, sym, refl, ap, ◌∙◌, append-nil, add-one, arith, length-append, length-drop, drop_of_length-le, length-take, length-take-le, drop-cons, get_or-take, take-add}
+use Rattle.std.proofs.Common.{◌≡◌, ℕ, zero, suc, ◌+◌, ◌-◌, ◌<◌, ◌≤◌, List, [], ◌∷◌, ◌++◌, length, get_or, take, drop, replicate, sym, refl, ap, ◌∙◌, append-nil, add-one, arith, length-append, length-drop, drop_of_length-le, length-take-le, drop-cons, take-add}
 use Rattle.wire.specs.Bytes.{overwrite}
 use Rattle.wire.proofs.OverwriteLaws.{overwrite_nil, overwrite-next, overwrite_then}
 use Rattle.canonical_form.specs.Spans.{chunk_of, chunks, head_text}
+use Rattle.canonical_form.specs.declared.features.Span.{Span}
 use Rattle.entry_id.specs.Scan.{part}
 
 -- ---- the features one after the other
-
-module _ (x : List ℕ) (t : List ℕ) (n i : ℕ) (room : n ≤ length t) (h : i < n) where
-  pub chunks-next : chunks x (drop i (take n t)) ≡ chunk_of x (get_or t i 0) ++ chunks x (drop (i + 1) (take n t))
-  unfolding chunks
-  chunks-next =
-      let l = length-take-le n t room in
-      rw (drop-cons (take n t) i 0 (omega arith), get_or-take n t i 0 h, add-one i)
 
 pub dashes_are : (d : ℕ) → d ≤ 2 → take {A = ℕ} d (45 ∷ 45 ∷ []) ≡ replicate d 45
 dashes_are zero h = refl
@@ -45,19 +39,20 @@ head_whole x at dashes upto h e =
     rw e (ap (λ n. take n x) k ∙ take-add at (upto - at) x ∙ ap (λ l. l ++ take (upto - at) (drop at x)) (sym (append-nil (take at x))))
 
 -- one feature more
-module _ (x o : List ℕ) (t : List ℕ) (n i q : ℕ) (c u : List ℕ) (room : n ≤ length t) (h : i < n) (ce : c ≡ chunk_of x (get_or t i 0)) where
-  next_is : chunks x (drop i (take n t)) ≡ c ++ chunks x (drop (i + 1) (take n t))
-  next_is = chunks-next x t n i room h ∙ ap (λ l. l ++ chunks x (drop (i + 1) (take n t))) (sym ce)
+module _ (x o : List ℕ) (t : List Span) (i q : ℕ) (c u : List ℕ) (d : Span) (h : i < length t) (ce : c ≡ chunk_of x (get_or t i d)) where
+  next_is : chunks x (drop i t) ≡ c ++ chunks x (drop (i + 1) t)
+  unfolding chunks
+  next_is = rw (drop-cons t i d h, sym ce, add-one i)
 
-  pub next-length : q + length c + length (chunks x (drop (i + 1) (take n t))) ≡ q + length (chunks x (drop i (take n t)))
-  next-length = omega (arith, ap length next_is ∙ length-append c (chunks x (drop (i + 1) (take n t))))
+  pub next-length : q + length c + length (chunks x (drop (i + 1) t)) ≡ q + length (chunks x (drop i t))
+  next-length = omega (arith, ap length next_is ∙ length-append c (chunks x (drop (i + 1) t)))
 
-  pub next-over : u ≡ overwrite o q c → q + length (chunks x (drop i (take n t))) ≤ length o
-      → overwrite u (q + length c) (chunks x (drop (i + 1) (take n t))) ≡ overwrite o q (chunks x (drop i (take n t)))
-  next-over e k = rw e (overwrite-next o q c (chunks x (drop (i + 1) (take n t))) (omega (arith, next-length)) ∙ ap (overwrite o q) (sym next_is))
+  pub next-over : u ≡ overwrite o q c → q + length (chunks x (drop i t)) ≤ length o
+      → overwrite u (q + length c) (chunks x (drop (i + 1) t)) ≡ overwrite o q (chunks x (drop i t))
+  next-over e k = rw e (overwrite-next o q c (chunks x (drop (i + 1) t)) (omega (arith, next-length)) ∙ ap (overwrite o q) (sym next_is))
 
-pub last_over : (x o : List ℕ) (t : List ℕ) (n i q : ℕ) → n ≤ i → (chunks x (drop i (take n t)) ≡ []) × (overwrite o q (chunks x (drop i (take n t))) ≡ o)
+pub last_over : (x o : List ℕ) (t : List Span) (i q : ℕ) → length t ≤ i → overwrite o q (chunks x (drop i t)) ≡ o
 unfolding chunks
-last_over x o t n i q h =
-    let e : drop i (take n t) ≡ [] = drop_of_length-le (take n t) {i = i} (omega (arith, length-take n t)) in
-    (rw e, ap (λ l. overwrite o q (chunks x l)) e ∙ overwrite_nil o q)
+last_over x o t i q h =
+    let e : drop i t ≡ [] = drop_of_length-le t {i = i} h in
+    ap (λ l. overwrite o q (chunks x l)) e ∙ overwrite_nil o q

@@ -4,15 +4,8 @@ use Rattle.wire.specs.Lists.{any, every}
 use Rattle.entry_id.specs.Text.{join_with, not_colon}
 use Rattle.entry_id.specs.Scan.{part, Run, ends_at, pieces_at}
 use Rattle.wire.specs.Bytes.{empty, same}
-use Rattle.entry_id.specs.Meaning.{fields_of, pieces_of, meaning, six_fields, name_byte, field_byte, processor_byte, processor_shaped, kinds, valid}
-use Rattle.entry_id.specs.Canonical.{head_of}
-use Rattle.canonical_form.specs.declared.scan.Class.{Class}
-use Rattle.canonical_form.specs.declared.scan.Class.TheVariants.{Field, Name, Processor}
-
-abbrev pub in_class : Class → ℕ → Bool
-in_class Field = field_byte
-in_class Name = name_byte
-in_class Processor = processor_byte
+use Rattle.entry_id.specs.Meaning.{fields_of, pieces_of, meaning, six_fields, field_byte, processor_shaped, kinds}
+use Rattle.canonical_form.specs.declared.head.Head.{Head}
 
 -- the first k fields are there, not empty and made of field bytes
 unfoldable pub filled : ℕ → List (List ℕ) → Bool
@@ -26,9 +19,9 @@ pub record Next (x : List ℕ) (a r : ℕ) : Type 0 where
   pub run : Run field_byte x (suc a) r
   pub some : suc a < r
 
-pub record NextIs (x : List ℕ) (a r : ℕ) : Type 0 where
-  pub found : 0 < r → Next x a r
-  pub missing : r ≡ 0 → (s k : ℕ) → Run field_byte x s a → filled (suc (suc k)) (fields_of (drop s x)) ≡ false
+-- there is none behind a field that ends at a
+abbrev pub NoNext : List ℕ → ℕ → Type 0
+NoNext x a = (s k : ℕ) → Run field_byte x s a → filled (suc (suc k)) (fields_of (drop s x)) ≡ false
 
 -- kind, arch, vendor and system stand before d
 pub record Triple (x : List ℕ) (d : ℕ) : Type 0 where
@@ -49,18 +42,10 @@ pub record Triple (x : List ℕ) (d : ℕ) : Type 0 where
   pub fields_are : fields_of x ≡ kind ∷ arch ∷ vendor ∷ fields_of (drop start x)
   pub pieces_are : pieces_of x ≡ pieces_of (drop start x)
 
-pub record TripleIs (x : List ℕ) (d : ℕ) : Type 0 where
-  pub found : 0 < d → Triple x d
-  pub refused : d ≡ 0 → valid x ≡ false
-
 -- from a up to r, where the head ends, stands a processor
 pub record ProcessorAt (x : List ℕ) (a r : ℕ) : Type 0 where
   pub run : Run not_colon x a r
   pub shaped : T (processor_shaped (part x a r))
-
-pub record ProcessorIs (x : List ℕ) (a r : ℕ) : Type 0 where
-  pub found : 0 < r → ProcessorAt x a r
-  pub missing : r ≡ 0 → processor_shaped (head_of (drop a x)) ≡ false
 
 -- the text starts with a kind and a '-'
 pub record Kinded (x : List ℕ) : Type 0 where
@@ -69,23 +54,19 @@ pub record Kinded (x : List ℕ) : Type 0 where
   pub kind_in : T (any (same kind) kinds)
   pub is : x ≡ kind ++ 45 ∷ rest
 
--- the head is in order; its canonical form has these dashes more, at this place
-pub record HeadAt (x : List ℕ) (at dashes stop : ℕ) (proc : Bool) : Type 0 where
+-- the head is in order, and is h
+pub record HeadAt (x : List ℕ) (h : Head) : Type 0 where
   pub kind_in : T (any (same (meaning x).kind) kinds)
   pub arch_some : T (not (empty (meaning x).arch))
   pub vendor_some : T (not (empty (meaning x).vendor))
   pub system_some : T (not (empty (meaning x).system))
   pub field_bytes_lem : T (every (every field_byte) ((meaning x).arch ∷ (meaning x).vendor ∷ (meaning x).system ∷ (meaning x).environment ∷ []))
   pub processor_shaped_lem : T (processor_shaped (meaning x).processor)
-  pub proc_is : proc ≡ not (empty (meaning x).processor)
+  pub proc_is : h.processor ≡ not (empty (meaning x).processor)
   pub least : 4 ≤ length (fields_of x)
-  pub few : dashes ≤ 2
-  pub place : at ≤ stop
-  pub within : stop ≤ length x
-  pub ends : ends_at x stop ≡ true
-  pub form : join_with 45 (six_fields (meaning x)) ≡ take at x ++ replicate dashes 45 ++ part x at stop
-  pub pieces_are : pieces_of x ≡ pieces_at x stop
-
-pub record HeadIs (x : List ℕ) (ok : Bool) (at dashes stop : ℕ) (proc : Bool) : Type 0 where
-  pub found : ok ≡ true → HeadAt x at dashes stop proc
-  pub refused : ok ≡ false → valid x ≡ false
+  pub few : h.dashes ≤ 2
+  pub place : h.at ≤ h.stop
+  pub within : h.stop ≤ length x
+  pub ends : ends_at x h.stop ≡ true
+  pub form : join_with 45 (six_fields (meaning x)) ≡ take h.at x ++ replicate h.dashes 45 ++ part x h.at h.stop
+  pub pieces_are : pieces_of x ≡ pieces_at x h.stop

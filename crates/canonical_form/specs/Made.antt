@@ -1,5 +1,5 @@
 -- What is told of a canonical form that was made. Definitions only.
-use Rattle.std.specs.Prelude.{ℕ, cond, List, length, ◌==◌}
+use Rattle.std.specs.Prelude.{ℕ, cond, List, [], ◌∷◌, length, ◌==◌, Option, None, Some}
 use Rattle.entry_id.specs.Canonical.{head_key}
 use Rattle.canonical_form.specs.declared.Form.{Form}
 
@@ -7,6 +7,7 @@ use Rattle.canonical_form.specs.declared.Form.{Form}
 unfoldable pub compared_length : ℕ → ℕ
 compared_length n = cond (n == 5) 3 n
 
--- its length, and its head's number
-unfoldable pub form_of : List ℕ → Form
-form_of x = record { length = length x; key = head_key x }
+-- its length, and its head's number; no form has no byte
+unfoldable pub form_of : List ℕ → Option Form
+form_of [] = None
+form_of (b ∷ x) = Some (record { length = length (b ∷ x); key = head_key (b ∷ x) })

@@ -1,12 +1,14 @@
--- Features as spans of one text: a ':' at `at`, the name after it, its sign at `sign`. Definitions only. Assumes nothing.
-use Rattle.std.specs.Prelude.{◌≡◌, ℕ, suc, ◌+◌, ◌/◌, ◌%◌, ◌<◌, ◌≤◌, Bool, true, false, cond, not, ◌&&◌, T, List, [], ◌∷◌, ◌++◌, map, length, take, drop, replicate, ◌==◌, nat_le, nat_lt, slice_index}
+-- Features as spans of one text. Definitions only. Assumes nothing.
+use Rattle.std.specs.Prelude.{◌≡◌, ℕ, suc, ◌+◌, ◌<◌, ◌≤◌, Bool, true, not, ◌&&◌, T, List, [], ◌∷◌, ◌++◌, map, length, take, replicate, ◌==◌, nat_lt, slice_index, Option, is_some, IfSome}
 use Rattle.wire.specs.Lists.{any, every}
 use Rattle.wire.specs.Bytes.{same}
-use Rattle.entry_id.specs.Text.{split_on, join_with}
+use Rattle.entry_id.specs.Text.{join_with}
 use Rattle.wire.specs.Order.{insert_by, sort_by, distinct_by}
 use Rattle.entry_id.specs.Meaning.{six_fields, feature, name_byte, signed, named, valid, canonical_of, meaning}
 use Rattle.entry_id.specs.Canonical.{sign_byte}
 use Rattle.entry_id.specs.Scan.{part, ends_at, pieces_at}
+use Rattle.canonical_form.specs.declared.features.Span.{Span}
+use Rattle.canonical_form.specs.declared.plan.Plan.{Plan}
 
 -- the piece is a feature: a name and a sign
 unfoldable pub piece_ok : List ℕ → Bool
@@ -20,87 +22,66 @@ pub record Piece (x : List ℕ) (a r : ℕ) : Type 0 where
   pub sgn : T (sign_byte (slice_index x r))
   pub ends : ends_at x (suc r) ≡ true
 
-pub record PieceIs (x : List ℕ) (a r : ℕ) : Type 0 where
-  pub found : 0 < r → Piece x a r
-  pub refused : r ≡ 0 → every piece_ok (split_on 58 (drop a x)) ≡ false
-
--- a span as one number: the place of its ':' below 256, and its sign's place
-unfoldable pub at_of : ℕ → ℕ
-at_of s = s % 256
-
-unfoldable pub sign_of : ℕ → ℕ
-sign_of s = s / 256
-
 -- the span of a feature
-unfoldable pub good : List ℕ → ℕ → Bool
+unfoldable pub good : List ℕ → Span → Bool
 good x s =
-    (slice_index x (at_of s) == 58) && nat_lt (suc (at_of s)) (sign_of s) && nat_lt (sign_of s) (length x)
-    && every name_byte (part x (suc (at_of s)) (sign_of s)) && sign_byte (slice_index x (sign_of s)) && ends_at x (suc (sign_of s))
+    (slice_index x s.at == 58) && nat_lt (suc s.at) s.sign && nat_lt s.sign (length x)
+    && every name_byte (part x (suc s.at) s.sign) && sign_byte (slice_index x s.sign) && ends_at x (suc s.sign)
 
 -- its name, its piece with the ':' before it, and the piece
-unfoldable pub name_of : List ℕ → ℕ → List ℕ
-name_of x s = cond (nat_lt (sign_of s) (length x)) (cond (nat_lt (at_of s) (sign_of s)) (part x (suc (at_of s)) (sign_of s)) []) []
+unfoldable pub name_of : List ℕ → Span → List ℕ
+name_of x s = part x (suc s.at) s.sign
 
-unfoldable pub chunk_of : List ℕ → ℕ → List ℕ
-chunk_of x s = cond (nat_lt (sign_of s) (length x)) (cond (nat_lt (at_of s) (sign_of s)) (part x (at_of s) (suc (sign_of s))) []) []
+unfoldable pub chunk_of : List ℕ → Span → List ℕ
+chunk_of x s = part x s.at (suc s.sign)
 
-unfoldable pub piece_at : List ℕ → ℕ → List ℕ
-piece_at x s = part x (suc (at_of s)) (suc (sign_of s))
+unfoldable pub piece_at : List ℕ → Span → List ℕ
+piece_at x s = part x (suc s.at) (suc s.sign)
 
-pub record Pieces (x : List ℕ) (stop n : ℕ) (t : List ℕ) : Type 0 where
+pub record Pieces (x : List ℕ) (stop n : ℕ) (t : List Span) : Type 0 where
   pub few : n ≤ 8
   pub size : length t ≡ 8
   pub are : pieces_at x stop ≡ map (piece_at x) (take n t)
   pub all_good : T (every (good x) (take n t))
 
-pub record PiecesIs (x : List ℕ) (stop : ℕ) (ok : Bool) (n : ℕ) (t : List ℕ) : Type 0 where
-  pub found : ok ≡ true → Pieces x stop n t
-  pub refused : ok ≡ false → (every piece_ok (pieces_at x stop) && nat_le (length (pieces_at x stop)) 8) ≡ false
+-- the first span put in its place among the others
+unfoldable pub placed : List ℕ → List Span → List Span
+placed x [] = []
+placed x (f ∷ l) = insert_by (name_of x) f l
 
--- the span at k put in its place among those after it
-unfoldable pub placed : List ℕ → List ℕ → ℕ → List ℕ
-placed x t k = take k t ++ insert_by (name_of x) (slice_index t k) (drop (suc k) t)
+-- no other span has the name of the first
+unfoldable pub new_first : List ℕ → List Span → Bool
+new_first x [] = true
+new_first x (f ∷ l) = not (any (λ g. same (name_of x f) (name_of x g)) l)
 
--- no span of the list has this one's name
-unfoldable pub new_name : List ℕ → ℕ → List ℕ → Bool
-new_name x f l = not (any (λ g. same (name_of x f) (name_of x g)) l)
+-- the first span of t was put in its place, which made u: none where its name is not new, else whether nothing moved
+pub record PlacedIs (x : List ℕ) (t : List Span) (still : Option Bool) (u : List Span) : Type 0 where
+  pub fresh : is_some still ≡ new_first x t
+  pub made : IfSome still (λ s. (u ≡ placed x t) × (s ≡ true → u ≡ t))
 
--- of the first n spans of t the one at k was put in its place, which made u: `ok` says that its name is new, `still` that nothing moved
-pub record PlacedIs (x : List ℕ) (t : List ℕ) (k n : ℕ) (ok still : Bool) (u : List ℕ) : Type 0 where
-  pub size : length u ≡ 8
-  pub fresh : ok ≡ new_name x (slice_index t k) (drop (suc k) (take n t))
-  pub made : ok ≡ true → take n u ≡ placed x (take n t) k
-  pub kept : still ≡ true → u ≡ t
-
--- the first n spans of t were put in order, which made u: `ok` says that their names are apart, `tidy` that nothing moved
-pub record SortedIs (x : List ℕ) (t : List ℕ) (n : ℕ) (ok tidy : Bool) (u : List ℕ) : Type 0 where
-  pub size : length u ≡ 8
-  pub apart : ok ≡ distinct_by (name_of x) (take n t)
-  pub made : ok ≡ true → take n u ≡ sort_by (name_of x) (take n t)
-  pub kept : tidy ≡ true → u ≡ t
+-- the spans t were put in order, which made u: none where their names are not apart, else whether nothing moved
+pub record SortedIs (x : List ℕ) (t : List Span) (tidy : Option Bool) (u : List Span) : Type 0 where
+  pub apart : is_some tidy ≡ distinct_by (name_of x) t
+  pub made : IfSome tidy (λ s. (u ≡ sort_by (name_of x) t) × (s ≡ true → u ≡ t))
 
 -- ---- the canonical form in parts of the text
 
-unfoldable pub chunks : List ℕ → List ℕ → List ℕ
+unfoldable pub chunks : List ℕ → List Span → List ℕ
 chunks x [] = []
 chunks x (s ∷ l) = chunk_of x s ++ chunks x l
 
 unfoldable pub head_text : List ℕ → ℕ → ℕ → ℕ → List ℕ
 head_text x at dashes stop = take at x ++ replicate dashes 45 ++ part x at stop
 
--- where the parts of the canonical form stand: the text up to `upto` with the dashes put in, then the spans
-pub record PlanAt (x : List ℕ) (at dashes stop upto n : ℕ) (t : List ℕ) : Type 0 where
+-- the parts of the canonical form are those that p names, with the spans t
+pub record PlanAt (x : List ℕ) (p : Plan) (t : List Span) : Type 0 where
   pub right : T (valid x)
-  pub place : at ≤ stop
-  pub below : stop ≤ upto
-  pub within : upto ≤ length x
-  pub few_dashes : dashes ≤ 2
-  pub few : n ≤ 8
-  pub size : length t ≡ 8
-  pub head : join_with 45 (six_fields (meaning x)) ≡ head_text x at dashes stop
-  pub text : canonical_of (meaning x) ≡ head_text x at dashes upto ++ chunks x (take n t)
-  pub long : length (canonical_of (meaning x)) ≡ length x + dashes
-
-pub record PlanIs (x : List ℕ) (ok : Bool) (at dashes stop upto n : ℕ) (t : List ℕ) : Type 0 where
-  pub found : ok ≡ true → PlanAt x at dashes stop upto n t
-  pub refused : ok ≡ false → valid x ≡ false
+  pub place : p.head.at ≤ p.head.stop
+  pub below : p.head.stop ≤ p.upto
+  pub within : p.upto ≤ length x
+  pub few_dashes : p.head.dashes ≤ 2
+  pub few : p.count ≤ 8
+  pub all_good : T (every (good x) (take p.count t))
+  pub head : join_with 45 (six_fields (meaning x)) ≡ head_text x p.head.at p.head.dashes p.head.stop
+  pub text : canonical_of (meaning x) ≡ head_text x p.head.at p.head.dashes p.upto ++ chunks x (take p.count t)
+  pub long : length (canonical_of (meaning x)) ≡ length x + p.head.dashes

@@ -1,179 +1,121 @@
-// The features of an ID as spans of its text, and their order. A span is one number: the place of its ':' and 256 times that of its sign.
-ghost use Rattle.std.specs.Prelude.{◌≡◌, suc, ◌+◌, ◌<◌, ◌≤◌, true, false, T, length, take, drop};
-ghost use Rattle.entry_id.specs.Scan.{ends_at};
-ghost use Rattle.canonical_form.specs.Spans.{PieceIs, PiecesIs, PlacedIs, SortedIs, name_of, chunk_of};
+// The features of an ID as spans of its text, and their order.
+ghost use Rattle.std.specs.Prelude.{◌≡◌, suc, ◌+◌, ◌<◌, ◌≤◌, true, false, ◌&&◌, T, leb, length, take, drop, MatchOption};
+ghost use Rattle.std.specs.Ordering.{is_lt, is_eq};
+ghost use Rattle.wire.specs.Lists.{every};
+ghost use Rattle.entry_id.specs.Text.{split_on};
+ghost use Rattle.entry_id.specs.Scan.{ends_at, pieces_at};
+ghost use Rattle.canonical_form.specs.Spans.{piece_ok, Piece, Pieces, PlacedIs, SortedIs, good, name_of, chunk_of};
 ghost use Rattle.wire.specs.Bytes.{same, before};
 ghost use Rattle.wire.specs.Order.{rising_by};
 
 use crate::scan::{byte, ends, name_end};
+use std::cmp::Ordering;
 
-// The place of the sign that ends the feature whose name starts at from; 0 where the piece is no feature.
-fn sign_at(id: &[u8], from: usize) -> usize
+// A feature: where its ':' stands, and where its sign does.
+#[derive(Clone, Copy)]
+pub(crate) struct Span {
+    pub at: usize,
+    pub sign: usize,
+}
+
+// Two parts with bounds and a definition each: one function for both would take the bounds from its callers.
+impl Span {
+    // The name of the feature.
+    fn name(self, id: &[u8]) -> &[u8]
+        requires { T (good id.now self) }
+        ensures { result.now ≡ name_of id.now self }
+    {
+        &id[self.at + 1..self.sign]
+    }
+
+    // The feature with the ':' before it and its sign.
+    pub fn chunk(self, id: &[u8]) -> &[u8]
+        requires { T (good id.now self) }
+        ensures { result.now ≡ chunk_of id.now self }
+    {
+        &id[self.at..self.sign + 1]
+    }
+}
+
+// The place of the sign that ends the feature whose name starts at from; none where the piece is no feature.
+fn sign_at(id: &[u8], from: usize) -> Option<usize>
     requires { from ≤ length id.now }
-    ensures { PieceIs id.now from result }
+    ensures { MatchOption result (every piece_ok (split_on 58 (drop from id.now)) ≡ false) (Piece id.now from) }
 {
     let r = name_end(id, from);
     if r == from {
-        return 0;
+        return None;
     }
     let s = byte(id, r);
     if !((s == b'+') | (s == b'-')) {
-        return 0;
+        return None;
     }
     if ends(id, r + 1) {
-        return r;
+        return Some(r);
     }
-    0
+    None
 }
 
-// What was read: whether every piece is a feature, and how many there are.
-#[derive(Clone, Copy)]
-pub(crate) struct Found {
-    pub ok: bool,
-    pub n: usize,
-}
-
-// Reads the features after the head into spans.
-pub(crate) fn read_pieces(id: &[u8], stop: usize, spans: &mut [usize]) -> Found
-    requires { (length id.now ≤ 256) × ((length spans.old ≡ 8) × ((stop ≤ length id.now) × (ends_at id.now stop ≡ true))) }
-    ensures { PiecesIs id.now stop result.ok result.n spans.new }
+// Reads the features after the head into spans, and tells how many there are; none where a piece is no feature, or there are more than 8.
+pub(crate) fn read_pieces(id: &[u8], stop: usize, spans: &mut [Span; 8]) -> Option<usize>
+    requires { (stop ≤ length id.now) × (ends_at id.now stop ≡ true) }
+    ensures { MatchOption result ((every piece_ok (pieces_at id.now stop) && leb (length (pieces_at id.now stop)) 8) ≡ false) (λ n. Pieces id.now stop n spans.new) }
 {
     let mut n = 0;
     let mut at = stop;
+    // Not a range: each step goes behind a feature.
     while at < id.len() {
-        let sign = sign_at(id, at + 1);
-        if (sign == 0) | (n == 8) {
-            return Found { ok: false, n: 0 };
+        let sign = sign_at(id, at + 1)?;
+        if n == 8 {
+            return None;
         }
-        spans[n] = at + 256 * sign;
+        spans[n] = Span { at, sign };
         n += 1;
         at = sign + 1;
     }
-    Found { ok: true, n }
-}
-
-// The name of a feature.
-fn name(id: &[u8], s: usize) -> &[u8]
-    ensures { result.now ≡ name_of id.now s }
-{
-    let at = s % 256;
-    let sign = s / 256;
-    if id.len() <= sign {
-        return &id[..0];
-    }
-    if sign <= at {
-        return &id[..0];
-    }
-    &id[at + 1..sign]
-}
-
-// A feature with the ':' before it and its sign.
-pub(crate) fn chunk(id: &[u8], s: usize) -> &[u8]
-    ensures { result.now ≡ chunk_of id.now s }
-{
-    let at = s % 256;
-    let sign = s / 256;
-    if id.len() <= sign {
-        return &id[..0];
-    }
-    if sign <= at {
-        return &id[..0];
-    }
-    &id[at..sign + 1]
+    Some(n)
 }
 
 // How two names stand to each other, by one comparison.
-#[derive(Clone, Copy)]
-struct Standing {
-    before: bool,
-    same: bool,
-}
-
-fn compared(a: &[u8], b: &[u8]) -> Standing
-    ensures { (result.before ≡ before a.now b.now) × (result.same ≡ same a.now b.now) }
+fn compared(a: &[u8], b: &[u8]) -> Ordering
+    ensures { (is_lt result ≡ before a.now b.now) × (is_eq result ≡ same a.now b.now) }
 {
     let n = wire_read::common_prefix(a, b);
-    if n < b.len() {
-        if n < a.len() {
-            return Standing {
-                before: a[n] < b[n],
-                same: false,
-            };
-        }
-        return Standing {
-            before: true,
-            same: false,
-        };
+    if (n < a.len()) & (n < b.len()) {
+        return a[n].cmp(&b[n]);
     }
-    Standing {
-        before: false,
-        same: n == a.len(),
-    }
+    a.len().cmp(&b.len())
 }
 
-// Whether a name is new, and whether its feature stays where it is.
-#[derive(Clone, Copy)]
-struct Placed {
-    ok: bool,
-    still: bool,
-}
-
-// The feature at k goes to its place among those after it, which are in order. A name that is there already is refused.
-fn place(id: &[u8], t: &mut [usize], k: usize, n: usize) -> Placed
-    requires { (k < n) × ((n ≤ length t.old) × ((length t.old ≡ 8) × T (rising_by (name_of id.now) (drop (suc k) (take n t.old))))) }
-    ensures { PlacedIs id.now t.old k n result.ok result.still t.new }
+// The first feature goes to its place among the others, which are in order; tells whether it stays where it is. A name that is there already is refused.
+// `sort` lends it a longer tail of the spans each time: a struct of text and spans would be made anew for each.
+fn place(id: &[u8], spans: &mut [Span]) -> Option<bool>
+    requires { (0 < length spans.old) × T (every (good id.now) spans.old) × T (rising_by (name_of id.now) (drop 1 spans.old)) }
+    ensures { PlacedIs id.now spans.old result spans.new }
 {
-    let mut i = k;
-    while i + 1 < n {
-        let f = t[i];
-        let g = t[i + 1];
-        let o = compared(name(id, f), name(id, g));
-        if o.before {
-            return Placed {
-                ok: true,
-                still: i == k,
-            };
+    for i in 0..spans.len() - 1 {
+        let f = spans[i];
+        let g = spans[i + 1];
+        match compared(f.name(id), g.name(id)) {
+            Ordering::Less => return Some(i == 0),
+            Ordering::Equal => return None,
+            Ordering::Greater => {
+                spans[i] = g;
+                spans[i + 1] = f;
+            }
         }
-        if o.same {
-            return Placed {
-                ok: false,
-                still: false,
-            };
-        }
-        t[i] = g;
-        t[i + 1] = f;
-        i += 1;
     }
-    Placed {
-        ok: true,
-        still: i == k,
-    }
+    Some(spans.len() == 1)
 }
 
-// Whether the names are apart, and whether the features were in order.
-#[derive(Clone, Copy)]
-pub(crate) struct Sorted {
-    pub ok: bool,
-    pub tidy: bool,
-}
-
-// Puts the first n features in order of their names.
-pub(crate) fn sort(id: &[u8], t: &mut [usize], n: usize) -> Sorted
-    requires { (n ≤ 8) × (length t.old ≡ 8) }
-    ensures { SortedIs id.now t.old n result.ok result.tidy t.new }
+// Puts features in order of their names; tells whether they were. A name that stands twice is refused. std's sort would tell neither.
+pub(crate) fn sort(id: &[u8], spans: &mut [Span]) -> Option<bool>
+    requires { T (every (good id.now) spans.old) }
+    ensures { SortedIs id.now spans.old result spans.new }
 {
-    let mut k = n;
     let mut tidy = true;
-    while 0 < k {
-        k -= 1;
-        let p = place(id, t, k, n);
-        if !p.ok {
-            return Sorted {
-                ok: false,
-                tidy: false,
-            };
-        }
-        tidy = tidy & p.still;
+    for k in (0..spans.len()).rev() {
+        tidy &= place(id, &mut spans[k..])?;
     }
-    Sorted { ok: true, tidy }
+    Some(tidy)
 }

@@ -1,31 +1,27 @@
 // The head of an ID: kind, triple, environment and processor, before the first ':'.
-ghost use Rattle.std.specs.Prelude.{◌≡◌, ◌+◌, ◌<◌, true, false};
+ghost use Rattle.std.specs.Prelude.{◌≡◌, ◌+◌, ◌<◌, true, false, drop, MatchOption};
 ghost use Rattle.wire.specs.Lists.{any};
 ghost use Rattle.wire.specs.Bytes.{same};
-ghost use Rattle.entry_id.specs.Meaning.{kinds, names_processor, field_byte};
+ghost use Rattle.entry_id.specs.Meaning.{kinds, names_processor, field_byte, processor_shaped, valid};
+ghost use Rattle.entry_id.specs.Canonical.{head_of};
 ghost use Rattle.entry_id.specs.Scan.{Run};
-ghost use Rattle.canonical_form.specs.Heads.{NextIs, TripleIs, ProcessorIs, HeadIs};
+ghost use Rattle.canonical_form.specs.Heads.{Next, NoNext, Triple, ProcessorAt, HeadAt};
 
 use crate::scan::{byte, ends, field_end, processor_end};
 
 fn is_kind(k: &[u8]) -> bool
     ensures { result ≡ any (same k.now) kinds }
 {
-    if k.len() == 3 {
-        return wire_read::same_bytes(k, b"hip");
+    match k.len() {
+        3 => wire_read::same_bytes(k, b"hip"),
+        4 => wire_read::same_bytes(k, b"host"),
+        5 => wire_read::same_bytes(k, b"hipv4"),
+        6 => wire_read::same_bytes(k, b"openmp"),
+        _ => false,
     }
-    if k.len() == 4 {
-        return wire_read::same_bytes(k, b"host");
-    }
-    if k.len() == 5 {
-        return wire_read::same_bytes(k, b"hipv4");
-    }
-    if k.len() == 6 {
-        return wire_read::same_bytes(k, b"openmp");
-    }
-    false
 }
 
+// Byte by byte: as a slice pattern it left goals of its proof open.
 fn is_proc(f: &[u8]) -> bool
     ensures { result ≡ names_processor f.now }
 {
@@ -38,123 +34,96 @@ fn is_proc(f: &[u8]) -> bool
     (f[0] == b's') & ((f[1] == b'm') & (f[2] == b'_'))
 }
 
-// The end of the field, of at least one byte, that follows a '-' at a; 0 where there is none.
-fn next(id: &[u8], a: usize) -> usize
-    ensures { NextIs id.now a result }
+// The end of the field, of at least one byte, that follows a '-' at a.
+fn next(id: &[u8], a: usize) -> Option<usize>
+    ensures { MatchOption result (NoNext id.now a) (Next id.now a) }
 {
     if byte(id, a) != b'-' {
-        return 0;
+        return None;
     }
     let r = field_end(id, a + 1);
     if r == a + 1 {
-        return 0;
+        return None;
     }
-    r
+    Some(r)
 }
 
-// The end of the fourth field: kind, arch, vendor, system; 0 where they break the rules.
-fn triple(id: &[u8]) -> usize
-    ensures { TripleIs id.now result }
+// The end of the fourth field: kind, arch, vendor, system; none where they break the rules.
+fn triple(id: &[u8]) -> Option<usize>
+    ensures { MatchOption result (valid id.now ≡ false) (Triple id.now) }
 {
     let a = field_end(id, 0);
     if !is_kind(&id[..a]) {
-        return 0;
+        return None;
     }
-    let b = next(id, a);
-    if b == 0 {
-        return 0;
-    }
-    let c = next(id, b);
-    if c == 0 {
-        return 0;
-    }
+    let b = next(id, a)?;
+    let c = next(id, b)?;
     next(id, c)
 }
 
-// The end of the processor, empty or not, that starts at a, with a field that ends at e; 0 where what stands there is none.
-fn processor(id: &[u8], a: usize, e: usize) -> usize
+// The end of the processor, empty or not, that starts at a, with a field that ends at e; none where what stands there is none.
+fn processor(id: &[u8], a: usize, e: usize) -> Option<usize>
     requires { (0 < a) × Run field_byte id.now a e }
-    ensures { ProcessorIs id.now a result }
+    ensures { MatchOption result (processor_shaped (head_of (drop a id.now)) ≡ false) (ProcessorAt id.now a) }
 {
     if ends(id, e) {
-        return e;
+        return Some(e);
     }
     let r = processor_end(id, e);
     if !ends(id, r) {
-        return 0;
+        return None;
     }
     if (id[a] == b'-') | (id[r - 1] == b'-') {
-        return 0;
+        return None;
     }
-    r
+    Some(r)
 }
 
-// The head of an ID: the canonical form has `dashes` more '-', at `at`; it ends at `stop`; `proc` says whether a processor is named.
+// The head of an ID: the canonical form has `dashes` more '-', at `at`; it ends at `stop`; `processor` says whether one is named.
 #[derive(Clone, Copy)]
 pub(crate) struct Head {
-    pub ok: bool,
     pub at: usize,
     pub dashes: usize,
     pub stop: usize,
-    pub proc: bool,
+    pub processor: bool,
 }
 
-fn head_of(at: usize, dashes: usize, stop: usize, proc: bool) -> Head
-    ensures { (result.ok ≡ true) × ((result.at ≡ at) × ((result.dashes ≡ dashes) × ((result.stop ≡ stop) × (result.proc ≡ proc)))) }
-{
-    Head {
-        ok: true,
-        at,
-        dashes,
-        stop,
-        proc,
-    }
-}
-
-fn no_head() -> Head
-    ensures { result.ok ≡ false }
-{
-    Head {
-        ok: false,
-        at: 0,
-        dashes: 0,
-        stop: 0,
-        proc: false,
+impl Head {
+    fn new(at: usize, dashes: usize, stop: usize, processor: bool) -> Self
+        ensures { result ≡ record { at = at; dashes = dashes; stop = stop; processor = processor } }
+    {
+        Head {
+            at,
+            dashes,
+            stop,
+            processor,
+        }
     }
 }
 
 // Where the environment and the processor stand.
-pub(crate) fn read_head(id: &[u8]) -> Head
-    ensures { HeadIs id.now result.ok result.at result.dashes result.stop result.proc }
+pub(crate) fn read_head(id: &[u8]) -> Option<Head>
+    ensures { MatchOption result (valid id.now ≡ false) (HeadAt id.now) }
 {
-    let d = triple(id);
-    if d == 0 {
-        return no_head();
-    }
+    let d = triple(id)?;
     if ends(id, d) {
-        return head_of(d, 2, d, false);
+        return Some(Head::new(d, 2, d, false));
     }
     if byte(id, d) != b'-' {
-        return no_head();
+        return None;
     }
     let e = field_end(id, d + 1);
     if is_proc(&id[d + 1..e]) {
-        let p = processor(id, d + 1, e);
-        if p == 0 {
-            return no_head();
-        }
-        return head_of(d, 1, p, true);
+        let p = processor(id, d + 1, e)?;
+        return Some(Head::new(d, 1, p, true));
     }
     if ends(id, e) {
-        return head_of(e, 1, e, false);
+        return Some(Head::new(e, 1, e, false));
     }
     if byte(id, e) != b'-' {
-        return no_head();
+        return None;
     }
     let f = field_end(id, e + 1);
-    let p = processor(id, e + 1, f);
-    if p == 0 {
-        return no_head();
-    }
-    head_of(p, 0, p, e + 1 < p)
+    let p = processor(id, e + 1, f)?;
+    Some(Head::new(p, 0, p, e + 1 < p))
 }

@@ -6,11 +6,12 @@ mod head;
 mod plan;
 mod scan;
 
-ghost use Rattle.std.specs.Prelude.{◌≡◌, ◌+◌, ◌-◌, ◌%◌, ◌^◌, [], ◌++◌, length, drop};
-ghost use Rattle.wire.specs.Word.{word};
+ghost use Rattle.std.specs.Prelude.{◌≡◌, ◌+◌, ◌%◌, ◌^◌, ◌++◌, length, drop};
 ghost use Rattle.canonical_form.specs.Made.{form_of, compared_length};
 ghost use Rattle.entry_id.specs.Canonical.{kind_part, after_kind, head_number, key_of, canonical_in};
 ghost use Rattle.canonical_form.specs.Heads.{Kinded};
+
+use crate::features::Span;
 
 // A canonical form that was made: its length, and a number made from its head. Forms that a test of `entry_compare` relates have equal keys.
 #[derive(Clone, Copy)]
@@ -19,24 +20,15 @@ pub struct Form {
     pub key: u64,
 }
 
-// The last eight bytes of a head, as a word.
-fn last_word(head: &[u8]) -> u64
-    ensures { result ≡ word 8 head.now (length head.now - 8) }
-{
-    if head.len() < 8 {
-        return wire_read::word8_at(head, 0);
-    }
-    wire_read::word8_at(head, head.len() - 8)
-}
-
 // The number of a head.
 pub fn head_number(head: &[u8]) -> u64
     ensures { result ≡ head_number head.now }
 {
-    std::num::wrapping_add_u64(wire_read::word8_at(head, 0), last_word(head))
+    let last = head.len().saturating_sub(8);
+    wire_read::word_at::<8>(head, 0).wrapping_add(wire_read::word_at::<8>(head, last))
 }
 
-// The lengths of the kinds host, hip, hipv4 and openmp.
+// The lengths of the kinds host, hip, hipv4 and openmp. They stand for the kinds, since a key counts them (`compared_length`).
 const HOST: usize = 4;
 
 const HIP: usize = 3;
@@ -67,7 +59,7 @@ pub fn key_behind(kind: usize, head: &[u8]) -> u64
     ensures { result ≡ (head_number head.now + compared_length kind) % 2 ^ 64 }
 {
     let compared = if kind == HIPV4 { HIP } else { kind };
-    std::num::wrapping_add_u64(head_number(head), compared as u64)
+    head_number(head).wrapping_add(compared as u64)
 }
 
 // The key of a form with this head.
@@ -79,31 +71,19 @@ fn head_key(head: &[u8]) -> u64
     key_behind(kind, &head[kind..])
 }
 
-// No form was made.
-pub fn no_form() -> Form
-    ensures { result ≡ form_of [] }
+// The canonical form of id at the start of out; none, and out as it was, where id breaks the rules or the form does not fit.
+pub fn canonical(id: &[u8], out: &mut [u8]) -> Option<Form>
+    ensures { let c = canonical_in (length out.old) id.now in (result ≡ form_of c) × (out.new ≡ c ++ drop (length c) out.old) }
 {
-    Form { length: 0, key: 0 }
-}
-
-// The canonical form of id at the start of out; length 0 where id breaks the rules or the form does not fit, and out as it was.
-pub fn canonical(id: &[u8], out: &mut [u8]) -> Form
-    ensures { (result ≡ form_of (canonical_in (length out.old) id.now)) × (out.new ≡ canonical_in (length out.old) id.now ++ drop result.length out.old) }
-{
-    let mut spans = [0usize; 8];
-    let m = plan::read(id, &mut spans);
-    if !m.ok {
-        return no_form();
-    }
-    let dashes = m.dashes;
-    let length = id.len() + dashes;
+    let mut spans = [Span { at: 0, sign: 0 }; 8];
+    let plan = plan::read(id, &mut spans)?;
+    let head = plan.head;
+    let length = id.len() + head.dashes;
     if out.len() < length {
-        return no_form();
+        return None;
     }
-    let upto = m.upto;
-    plan::put_text(out, id, m.at, dashes, upto);
-    let stop = m.stop;
-    let key = head_key(&out[..stop + dashes]);
-    plan::put_pieces(out, upto + dashes, id, &spans, m.n);
-    Form { length, key }
+    plan::put_text(out, id, head.at, head.dashes, plan.upto);
+    let key = head_key(&out[..head.stop + head.dashes]);
+    plan::put_pieces(out, plan.upto + head.dashes, id, &spans[..plan.count]);
+    Some(Form { length, key })
 }

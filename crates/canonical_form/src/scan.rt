@@ -1,8 +1,7 @@
 // Reading one text: classes of bytes, and how far a run of one class goes.
-ghost use Rattle.std.specs.Prelude.{◌≡◌, ◌<◌, ◌≤◌, true, length, slice_index};
+ghost use Rattle.std.specs.Prelude.{◌≡◌, ℕ, ◌<◌, ◌≤◌, Bool, true, length, slice_index};
 ghost use Rattle.entry_id.specs.Meaning.{field_byte, name_byte, processor_byte};
 ghost use Rattle.entry_id.specs.Scan.{Run, ends_at};
-ghost use Rattle.canonical_form.specs.Heads.{in_class};
 
 // Most bytes of an ID are small letters, and a byte below '0' ends most runs: these are asked first.
 
@@ -39,69 +38,55 @@ fn processor_byte(b: u8) -> bool
     field_byte(b) | (b == b'-')
 }
 
-// A class of bytes.
-#[derive(Clone, Copy)]
-pub(crate) enum Class {
-    Field,
-    Name,
-    Processor,
-}
-
-fn in_class(class: Class, b: u8) -> bool
-    ensures { result ≡ in_class class b }
+// The end of the run of bytes of a class that starts at from.
+// `from` is a place of the text, as the answer is: for a slice behind it each caller would add it again.
+fn run_end<F: Fn(u8) -> bool>(x: &[u8], from: usize, in_class: F) -> usize
+    requires inside { from ≤ length x.now }
+    requires callable { F.IsAlwaysCallable in_class }
+    ensures { (class : ℕ → Bool) → ((b : ℕ) (r : Bool) → F.post in_class b r → r ≡ class b) → Run class x.now from result }
 {
-    match class {
-        Class::Field => field_byte(b),
-        Class::Name => name_byte(b),
-        Class::Processor => processor_byte(b),
-    }
-}
-
-// The end of the run of bytes of the class that starts at from.
-fn run_end(x: &[u8], from: usize, class: Class) -> usize
-    requires { from ≤ length x.now }
-    ensures { Run (in_class class) x.now from result }
-{
-    let mut i = from;
-    while i < x.len() {
-        if !in_class(class, x[i]) {
+    for i in from..x.len() {
+        if !in_class(x[i]) {
             return i;
         }
-        i += 1;
     }
-    i
+    x.len()
 }
 
+// The three ends are named by their classes, so that a caller need not say the class to the scan and again to its proof.
 pub(crate) fn field_end(x: &[u8], from: usize) -> usize
     requires { from ≤ length x.now }
     ensures { Run field_byte x.now from result }
 {
-    run_end(x, from, Class::Field)
+    run_end(x, from, field_byte)
 }
 
 pub(crate) fn name_end(x: &[u8], from: usize) -> usize
     requires { from ≤ length x.now }
     ensures { Run name_byte x.now from result }
 {
-    run_end(x, from, Class::Name)
+    run_end(x, from, name_byte)
 }
 
 pub(crate) fn processor_end(x: &[u8], from: usize) -> usize
     requires { from ≤ length x.now }
     ensures { Run processor_byte x.now from result }
 {
-    run_end(x, from, Class::Processor)
+    run_end(x, from, processor_byte)
 }
 
-// The byte at i, or 0 past the end.
+// The byte at i, or 0 past the end, which is neither a sign nor a '-'.
 pub(crate) fn byte(id: &[u8], i: usize) -> u8
     ensures { result ≡ slice_index id.now i }
 {
-    if i < id.len() { id[i] } else { 0 }
+    id.get(i).copied().unwrap_or(0)
 }
 
 pub(crate) fn ends(id: &[u8], i: usize) -> bool
     ensures { result ≡ ends_at id.now i }
 {
-    if i < id.len() { id[i] == b':' } else { true }
+    match id.get(i) {
+        Some(b) => *b == b':',
+        None => true,
+    }
 }

@@ -18,11 +18,12 @@ use Rattle.entry_id.specs.Meaning.{fields_of}
 use Rattle.entry_id.specs.Compare.{compared_kind}
 use Rattle.entry_id.specs.Canonical.{head_of, kind_part, after_kind, within, compatible_spelled, mixed_spelled, of_one_kind}
 use Rattle.entry_id.specs.Theorems.{hip_kind}
-use Rattle.entry_id.specs.Scan.{part, Run}
+use Rattle.entry_id.specs.Scan.{Run}
 use Rattle.entry_id.proofs.SignLaws.{agree_self}
-use Rattle.entry_id.proofs.RunLaws.{part_rest, part_start, cut-run}
+use Rattle.entry_id.proofs.RunLaws.{part_start, cut-run}
 use Rattle.entry_id.proofs.KindLaws.{ends, head_start, pieces_start, kind-cut, kind_whole, kind_plain, after_none, after_ends, after_more, kinds_apart}
-use Rattle.entry_compare.specs.Meet.{KindEnds, CutIs}
+use Rattle.entry_compare.specs.Meet.{KindEnds}
+use Rattle.entry_compare.specs.Pairs.{ByHead, Unlike}
 
 -- ---- where the first field ends
 
@@ -57,14 +58,17 @@ module _ (k : List ℕ) where
 
 -- ---- texts cut
 
-module _ (a b : List ℕ) (i j : ℕ) (one : Bool) (c : CutIs a b i j one) (test : List ℕ → List ℕ → Bool) where
-  pub kinds_differ : one ≡ false → false ≡ of_one_kind test a b
-  unfolding of_one_kind
-  kinds_differ e = rw (sym c.kinds ∙ e)
+module _ (a b : List ℕ) (i j : ℕ) (p : KindEnds a i) (q : KindEnds b j) (one : Bool) (c : one ≡ same (compared_kind (take i a)) (compared_kind (take j b))) where
+  one_is : one ≡ same (compared_kind (kind_part a)) (compared_kind (kind_part b))
+  one_is = c ∙ ap₂ (λ k l. same (compared_kind k) (compared_kind l)) p.kind q.kind
 
-  pub behind-kinds : one ≡ true → test (part a i (length a)) (part b j (length b)) ≡ of_one_kind test a b
+  pub kinds_differ : one ≡ false → Unlike a b
   unfolding of_one_kind
-  behind-kinds e = rw (sym c.kinds ∙ e) (ap₂ test (part_rest a i ∙ c.in_a.after) (part_rest b j ∙ c.in_b.after))
+  kinds_differ e = λ test. rw (sym one_is ∙ e)
+
+  pub behind-kinds : one ≡ true → (x y : List ℕ) → x ≡ drop i a → y ≡ drop j b → (test : List ℕ → List ℕ → Bool) → test x y ≡ of_one_kind test a b
+  unfolding of_one_kind
+  behind-kinds e x y f g test = rw (sym one_is ∙ e) (ap₂ test (f ∙ p.after) (g ∙ q.after))
 
 -- ---- texts as they are
 
@@ -72,11 +76,6 @@ same_start : (p a b : List ℕ) → same (p ++ a) (p ++ b) ≡ same a b
 unfolding same
 same_start [] a b = refl
 same_start (y ∷ p) a b = rw (eq-eqb y y refl) (same_start p a b)
-
--- a start without ':' decides nothing where both texts have it, and texts with other heads fail
-pub record ByHead (test : List ℕ → List ℕ → Bool) : Type 0 where
-  pub start : (p a b : List ℕ) → T (every not_colon p) → test (p ++ a) (p ++ b) ≡ test a b
-  pub apart : (a b : List ℕ) → same (head_of a) (head_of b) ≡ false → test a b ≡ false
 
 heads_start : (p a b : List ℕ) → T (every not_colon p) → same (head_of (p ++ a)) (head_of (p ++ b)) ≡ same (head_of a) (head_of b)
 heads_start p a b t = ap₂ same (head_start p t a) (head_start p t b) ∙ same_start p (head_of a) (head_of b)

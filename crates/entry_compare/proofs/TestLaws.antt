@@ -2,7 +2,7 @@
 use Prim.Native.Nat.{ℕ, zero, suc, ◌+◌, ◌-◌, ◌≤◌, ◌<◌}
 use mathlib.Core.Path.{◌≡◌, refl, sym, ap, ap₂, ◌∙◌, subst}
 use mathlib.Core.Logic.{inl, inr}
-use mathlib.Core.Bool.{Bool, true, false, ◌&&◌}
+use mathlib.Core.Bool.{Bool, true, false, not, ◌&&◌}
 use mathlib.Core.List.{List, [], ◌∷◌}
 use lib.ListN.{length, get_or, take, drop, drop_of_length-le, length-drop}
 use lib.Seq.{drop-cons, drop-drop, get_or-drop, get_or-take, length-take-le}
@@ -17,40 +17,26 @@ use Rattle.wire.proofs.Bools.{cases, by_bool, clash, and_both, or_true, and_fals
 use Rattle.wire.proofs.ByteLaws.{same_refl, same_eq, same_length, same-common, common-within, common-apart, common-take, common_get}
 use Rattle.entry_id.specs.Meaning.{pieces_of}
 use Rattle.entry_id.specs.Scan.{part, Run, pieces_at, ends_at}
-use Rattle.entry_compare.specs.Meet.{MeetIs}
+use Rattle.entry_compare.specs.Meet.{Meet}
 use Rattle.entry_id.specs.Canonical.{head_of, within, sign_byte, same_but_sign, compatible_spelled, mixed_spelled}
 use Rattle.entry_id.proofs.RunLaws.{cut-piece, pieces_part, goes_on, stop_here, head_stops, part_start, pieces_here, pieces_none}
 use native.Mathlib.Omega.{arith}
 use native.Mathlib.Numerals.{add-one}
 
--- the next piece
-module _ (x : List ℕ) (at e : ℕ) (k : at < length x) (h : Run not_colon x (suc at) e) where
-  pub next-piece : pieces_at x at ≡ part x (suc at) e ∷ pieces_at x e
-  next-piece = pieces_here x at k ∙ cut-piece x (suc at) e h
+-- what is left of the pieces decides: the piece behind the ':' at `at` ends at e
+pub every-next : (q : List ℕ → Bool) (x : List ℕ) (at e : ℕ) → at < length x → Run not_colon x (at + 1) e → every q (pieces_at x at) ≡ (q (part x (at + 1) e) && every q (pieces_at x e))
+unfolding every
+every-next q x at e h s = rw (pieces_here x at h, sym (add-one at), cut-piece x (at + 1) e s)
 
-  pub any_yes : (p : List ℕ) → same p (part x (suc at) e) ≡ true → any (same p) (pieces_at x at) ≡ true
-  unfolding any
-  any_yes p t = rw (next-piece, t)
+pub every_end : (q : List ℕ → Bool) (x : List ℕ) (at : ℕ) → length x ≤ at → every q (pieces_at x at) ≡ true
+unfolding every
+every_end q x at h = rw (pieces_none x at h)
 
-  pub any_no : (p : List ℕ) → same p (part x (suc at) e) ≡ false → any (same p) (pieces_at x at) ≡ any (same p) (pieces_at x e)
-  unfolding any
-  any_no p t = rw (next-piece, t)
-
-  pub within_yes : (qs : List (List ℕ)) → any (same (part x (suc at) e)) qs ≡ true → within qs (pieces_at x at) ≡ within qs (pieces_at x e)
-  unfolding within every
-  within_yes qs t = rw (next-piece, t)
-
-  pub within_no : (qs : List (List ℕ)) → any (same (part x (suc at) e)) qs ≡ false → within qs (pieces_at x at) ≡ false
-  unfolding within every
-  within_no qs t = rw (next-piece, t)
-
-pub any_end : (x : List ℕ) (at : ℕ) (p : List ℕ) → length x ≤ at → any (same p) (pieces_at x at) ≡ false
-unfolding any
-any_end x at p k = rw (pieces_none x at k)
-
-pub within_end : (x : List ℕ) (at : ℕ) (qs : List (List ℕ)) → length x ≤ at → within qs (pieces_at x at) ≡ true
-unfolding within every
-within_end x at qs k = rw (pieces_none x at k)
+-- one passes where not all fail
+pub none_fails : (q : List ℕ → Bool) (l : List (List ℕ)) → not (every (λ p. not (q p)) l) ≡ any q l
+unfolding every any
+none_fails q [] = refl
+none_fails q (p ∷ l) = by_bool (q p) (λ t. rw t) (λ f. rw f (none_fails q l))
 
 -- ---- common starts
 
@@ -119,7 +105,7 @@ module _ (a b : List ℕ) (e n : ℕ) (r : Run not_colon a 0 e) (c : n ≡ commo
       ∙ meet_step a b k (head_goes a e r k (omega arith)) (omega (arith, c, (common-within a b).1)) (common_get a b k (omega (arith, c)))
       ∙ ap (λ z. same (head_of (drop z a)) (head_of (drop z b))) (add-one k)
 
-  meet_apart : n < e → same (head_of a) (head_of b) ≡ false
+  pub meet_apart : n < e → same (head_of a) (head_of b) ≡ false
   meet_apart h =
       let g = head_goes a e r n h in
       heads_from n (omega arith) (omega arith) ∙ (elim (cases (ltb n (length b))) [
@@ -141,16 +127,11 @@ module _ (a b : List ℕ) (e n : ℕ) (r : Run not_colon a 0 e) (c : n ≡ commo
       stop = stop_here b e t;
     }
 
-    pub meet_found : ends_at b e ≡ true → MeetIs a b (e + 1)
-    meet_found t =
-        let k : e ≡ e + 1 - 1 = omega arith in
-        record { found = λ z. (meet_at ∙ t, (subst (Run not_colon a 0) k r, subst (Run not_colon b 0) k (meet_run t))); differ = λ z. absurd (omega arith) }
+    pub meet_found : ends_at b e ≡ true → Meet a b e
+    meet_found t = record { heads = meet_at ∙ t; in_a = r; in_b = meet_run t }
 
-    pub meet_other : ends_at b e ≡ false → MeetIs a b 0
-    meet_other t = record { found = λ z. absurd (omega arith); differ = λ z. meet_at ∙ t }
-
-  pub meet_none : n < e → MeetIs a b 0
-  meet_none h = record { found = λ z. absurd (omega arith); differ = λ z. meet_apart h }
+    pub meet_other : ends_at b e ≡ false → same (head_of a) (head_of b) ≡ false
+    meet_other t = meet_at ∙ t
 
 pub ends_inside : (x : List ℕ) (e : ℕ) (v : Bool) → e < length x → eqb (get_or x e 0) 58 ≡ v → ends_at x e ≡ v
 unfolding ends_at
@@ -160,22 +141,24 @@ pub ends_past : (x : List ℕ) (e : ℕ) → length x ≤ e → ends_at x e ≡ 
 unfolding ends_at
 ends_past x e h = rw (le-ltb e (length x) h)
 
-module _ (a b : List ℕ) (r : ℕ) (m : MeetIs a b r) where
-  pub compatible_yes : 0 < r → within (pieces_at b (r - 1)) (pieces_at a (r - 1)) ≡ compatible_spelled a b
+module _ (a b : List ℕ) (e : ℕ) (m : Meet a b e) where
+  pub compatible_yes : within (pieces_at b e) (pieces_at a e) ≡ compatible_spelled a b
   unfolding compatible_spelled
-  compatible_yes h = let f = m.found h in rw (f.0, pieces_part a 0 (r - 1) f.1.0, pieces_part b 0 (r - 1) f.1.1)
-
-  pub compatible_no : r ≡ 0 → false ≡ compatible_spelled a b
-  unfolding compatible_spelled
-  compatible_no h = rw (m.differ h)
+  compatible_yes = rw (m.heads, pieces_part a 0 e m.in_a, pieces_part b 0 e m.in_b)
 
   -- of texts that are not the same but for signs
-  pub mixed_meet : agree same_but_sign a b ≡ false → (q : Bool) → (0 < r → q ≡ true) → (r ≡ 0 → q ≡ false) → q ≡ mixed_spelled a b
+  pub mixed_yes : agree same_but_sign a b ≡ false → true ≡ mixed_spelled a b
   unfolding mixed_spelled
-  mixed_meet e q f g = elim (cases (ltb 0 r)) [
-    | inl z ↦ let k = ltb-true 0 r z in rw (e, (m.found k).0) (f k)
-    | inr z ↦ let k : r ≡ 0 = omega (arith, ltb-false 0 r z) in rw (e, m.differ k) (g k)
-  ]
+  mixed_yes f = rw (f, m.heads)
+
+module _ (a b : List ℕ) (e : same (head_of a) (head_of b) ≡ false) where
+  pub compatible_no : false ≡ compatible_spelled a b
+  unfolding compatible_spelled
+  compatible_no = rw e
+
+  pub mixed_no : false ≡ mixed_spelled a b
+  unfolding mixed_spelled
+  mixed_no = rw e
 
 within_self : (l : List (List ℕ)) → T (every (λ p. any (same p) l) l)
 unfolding every any
@@ -251,6 +234,13 @@ alike_end a b i h k e = sym (e ∙ ap₂ (agree same_but_sign) (drop_of_length-l
 
 -- ---- two texts whose common start has n bytes
 
+pub same_alike : (a b : List ℕ) → same a b ≡ true → agree same_but_sign a b ≡ true
+unfolding agree same_but_sign same
+same_alike [] [] e = refl
+same_alike [] (y ∷ b) e = absurd (subst T (sym e) tt)
+same_alike (x ∷ a) [] e = absurd (subst T (sym e) tt)
+same_alike (x ∷ a) (y ∷ b) e = let (p, q) = and_both (eqb x y) (same a b) e in rw (p, same_alike a b q)
+
 module _ (a b : List ℕ) (n : ℕ) (c : n ≡ common a b) where
   -- it is both of them, or they differ
   pub whole_same : (eqb n (length a) && eqb n (length b)) ≡ same a b
@@ -270,6 +260,3 @@ module _ (a b : List ℕ) (n : ℕ) (c : n ≡ common a b) where
       twice : (x : Bool) → (x && x) ≡ x
       twice true = refl
       twice false = refl
-
-  pub whole_alike : n ≡ length a → n ≡ length b → true ≡ agree same_but_sign a b
-  whole_alike x y = alike_end a b n (omega arith) (omega arith) (alike_start a b n c)

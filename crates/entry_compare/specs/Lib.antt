@@ -1,1 +1,3 @@
 pub mod Meet
+pub mod Relations
+pub mod Pairs

@@ -1,5 +1,6 @@
 // The reader and both writers, each call giving numbers alone, for the comparison with the second program: `harness_c` exports them as C calls.
 // include/offload.h has none of them.
+// Numbers are cast by `as`: `usize` and `u64` both have 64 bits here, and std has no `From` between them.
 #![tactic(auto)]
 
 ghost use Rattle.std.specs.Prelude.{◌≡◌, ◌%◌, length};
@@ -9,11 +10,11 @@ ghost use Rattle.offload_binary.specs.Reader.{next};
 ghost use Rattle.offload_binary.specs.Writer.{write as write_binary};
 ghost use Rattle.harness.specs.Fields.{field, bundle_field, binary_field, tags, step_numbers};
 
-use bundle::EntryRecord;
+use bundle::{EntryRecord, Written};
 use offload_binaries::Reader;
 use offload_binary::{Cursor, Step, StringPair, Tags};
 
-// Number 0, 1 or 2 of what a writer returns: the number, the place or the length.
+// Number 0, 1 or 2 of what a writer returns, as C asks for it: the number, the place or the length.
 fn field_of(number: usize, place: usize, length: usize, k: usize) -> u64
     ensures { result ≡ field k number place length }
 {
@@ -26,7 +27,8 @@ fn field_of(number: usize, place: usize, length: usize, k: usize) -> u64
     length as u64
 }
 
-fn bundle_field(written: bundle::Written, k: usize) -> u64
+// One for each writer: their records are of two crates, as the definitions `bundle_field` and `binary_field` are of two records.
+fn bundle_field(written: Written, k: usize) -> u64
     ensures { result ≡ bundle_field k written }
 {
     field_of(written.number, written.place, written.length, k)
@@ -42,7 +44,10 @@ pub fn offload_write_bundle_field(
 ) -> u64
     ensures { (result ≡ bundle_field k (write id_rules (length records.now) records.now ids.now images.now (length out.old))) × (out.new ≡ written_to id_rules (length records.now) records.now ids.now images.now out.old) }
 {
-    bundle_field(normal_form::write_bundle(records, ids, images, out), k)
+    bundle_field(
+        Written::from(normal_form::write_bundle(records, ids, images, out)),
+        k,
+    )
 }
 
 fn binary_field(written: offload_binary::Written, k: usize) -> u64
@@ -69,10 +74,8 @@ pub fn offload_write_binary_field(
         offload_kind,
         flags,
     };
-    binary_field(
-        offload_binary_list::write_binary(tags, image, pairs, strings, out),
-        k,
-    )
+    let written = offload_binary_writer::write_binary(tags, image, pairs, strings, out);
+    binary_field(written.into(), k)
 }
 
 // What the next call of a reader at this cursor answers, and where the reader then stands.
@@ -80,7 +83,7 @@ fn read_next(bytes: &[u8], cursor: Cursor) -> Step
     ensures { result ≡ next bytes.now cursor }
 {
     let mut reader = Reader { bytes, cursor };
-    let answer = reader.next();
+    let answer = reader.next().into();
     Step {
         answer,
         cursor: reader.cursor,
@@ -97,10 +100,7 @@ pub fn offload_binaries_next(
 )
     ensures { out.new ≡ step_numbers (i % 32) (next binaries.now (record { position = position; taken = taken })) }
 {
-    let cursor = Cursor {
-        position: position,
-        taken: taken,
-    };
+    let cursor = Cursor { position, taken };
     let step = read_next(binaries, cursor);
     let binary = step.answer.binary;
     let k = i % 32;

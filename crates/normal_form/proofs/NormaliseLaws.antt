@@ -1,101 +1,106 @@
 -- Normalising a bundle that was examined. Assumes nothing.
-use Prim.Native.Nat.{ℕ, zero, suc, ◌≤◌, ◌<◌}
+use Prim.Native.Nat.{ℕ, ◌<◌}
 use native.Mathlib.Omega.{arith}
-use mathlib.Core.Path.{◌≡◌, sym, ap, ap₂, ◌∙◌}
+use mathlib.Core.Path.{◌≡◌, refl, sym, ap, ap₂, ◌∙◌}
 use mathlib.Core.List.{List}
-use lib.ListN.{length, take}
+use lib.ListN.{length, take, replicate}
+use lib.Seq.{length-take-le, get_or-take}
 use Rattle.wire.specs.Order.{sort_by}
-use Rattle.wire.specs.Stop.{Stop, ◌⨾◌, output}
-use Rattle.wire.proofs.StopLaws.{⨾-go, ⨾-first, unrefused-go, unrefused-stop, output-stop}
-use Rattle.entry_id.specs.IdRules.{IdRules, Lawful}
+use Rattle.wire.specs.Stop.{Stop, go, ◌⨾◌, output}
+use Rattle.wire.specs.Refusals.{number_of, stop_by}
+use Rattle.wire.specs.declared.Refusal.{Refusal}
+use Rattle.wire.proofs.StopLaws.{⨾-go, unrefused-stop, output-stop}
+use Rattle.entry_id.specs.IdRules.{IdRules}
 use Rattle.bundle.specs.Table.{count, row}
 use Rattle.bundle.specs.Check.{bundle_stop}
 use Rattle.bundle.specs.Entry.{Entry, entries, entries_of}
-use Rattle.bundle_reader.specs.Examined.{text}
-use Rattle.bundle_reader.specs.Slots.{Examination}
+use Rattle.bundle.specs.Records.{no_record, record_at, row_of, rows_of}
 use Rattle.bundle.specs.Layout.{packed_length, encode}
 use Rattle.bundle.specs.Normal.{by_id, room_stop, answer, normal, normal_length, normalise_stop, normalise, normalised}
-use Rattle.bundle.specs.Accepted.{Accepted}
 use Rattle.bundle.specs.declared.EntryRecord.{EntryRecord}
 use Rattle.bundle.specs.declared.Written.{Written}
-use Rattle.bundle.proofs.AcceptLaws.{accepted, accepted-go}
+use Rattle.bundle.proofs.AcceptLaws.{accepted-go}
 use Rattle.bundle.proofs.NormalLaws.{sort_packed_length}
-use Rattle.normal_form.specs.Code.{given, in_order, up_to, Filled, Placed}
-use Rattle.normal_form.proofs.GivenLaws.{filled, given_is, sorted_entries, sorted_placed}
+use Rattle.bundle_reader.specs.Examined.{form, forms_of, row_held, rows_in, filled as filled_by}
+use Rattle.bundle_reader.specs.Slots.{Examination}
+use Rattle.bundle_reader.proofs.FilledLaws.{length-filled}
+use Rattle.bundle_reader.proofs.ExamineLaws.{examine_says}
+use Rattle.bundle_reader.specs.declared.Examined.{Examined}
+use Rattle.bundle_reader.proofs.RefusalLaws.{number_suc, refuses}
+use Rattle.normal_form.specs.Code.{values, given, Filled, Read}
+use Rattle.normal_form.specs.declared.Entry.{Entry as Held}
+use Rattle.normal_form.proofs.GivenLaws.{filled, given_is}
+
+-- a bundle that was examined, and is not refused
+pub read : (R : IdRules) (s : List ℕ) (ids₀ ids : List (List ℕ)) (e : Examined) → go ≡ bundle_stop R s
+    → e ≡ record { count = count s; rows = rows_in s (count s) } → ids ≡ filled_by ids₀ (forms_of R s) (form R (row s)) → length ids₀ ≡ 64 → Read R s e ids
+read R s ids₀ ids e z v a l = record {
+  says = examine_says R s ids₀ ids e z v a l;
+  rows_room = ap (λ (x : Examined). length x.rows) v ∙ length-filled (replicate 64 no_record) (count s) (row_held s);
+}
 
 -- what is returned by a call that a refusal stops, and its output
-pub answer-stop : (t : Stop) (number place len : ℕ) → 0 < number → t.number ≡ number → t.place ≡ place → ◌≡◌ {A = Written} (record { number = number; place = place; length = 0 }) (answer t len)
+pub refused_answer : (r : Refusal) (t : Stop) (len : ℕ) → stop_by r ≡ t → ◌≡◌ {A = Written} (record { number = number_of r.reason; place = r.place; length = 0 }) (answer t len)
 unfolding answer
-answer-stop t zero place len h e q = absurd (omega arith)
-answer-stop t (suc k) place len h e q = λ i. record { number = sym e i; place = sym q i; length = sym (unrefused-stop t len k e) i }
+refused_answer r t len e =
+    let k = number_suc r.reason in
+    let z = unrefused-stop (stop_by r) len k.0 k.1 in
+    rw (sym e) (rw z refl)
 
-pub refused_out : (t : Stop) (number : ℕ) (bytes out : List ℕ) → 0 < number → t.number ≡ number → out ≡ output t bytes out
-refused_out t zero bytes out h e = absurd (omega arith)
-refused_out t (suc k) bytes out h e = sym (output-stop t bytes out k e)
+pub refused_output : (r : Refusal) (t : Stop) (bytes out : List ℕ) → stop_by r ≡ t → out ≡ output t bytes out
+refused_output r t bytes out e = let k = number_suc r.reason in rw (sym e) (sym (output-stop (stop_by r) bytes out k.0 k.1))
 
-module _ (R : IdRules) (L : Lawful R) (s texts lens : List ℕ) (number place n : ℕ) (rows : List EntryRecord) (x : Examination R s texts lens number place n rows) where
-  pub number_is : (bundle_stop R s).number ≡ number
-  number_is = ap (λ t. t.number) (sym x.stop_is)
-
-  place_is : (bundle_stop R s).place ≡ place
-  place_is = ap (λ t. t.place) (sym x.stop_is)
-
+module _ (R : IdRules) (s : List ℕ) where
   -- 1 to 8 and 21
-  module _ (out : List ℕ) (h : 0 < number) where
-    stops : normalise_stop R s (length out) ≡ bundle_stop R s
-    unfolding normalise_stop
-    stops = ⨾-first (bundle_stop R s) _ number h number_is
+  module _ (r : Refusal) (e : stop_by r ≡ bundle_stop R s) where
+    pub normal_refused : (room : ℕ) → ◌≡◌ {A = Written} (record { number = number_of r.reason; place = r.place; length = 0 }) (normalise R s room)
+    unfolding normalise normalise_stop
+    normal_refused room = refused_answer r (normalise_stop R s room) (normal_length R s) (refuses r (bundle_stop R s) (room_stop (normal_length R s) room) e)
 
-    pub refused-answer : ◌≡◌ {A = Written} (record { number = number; place = place; length = 0 }) (normalise R s (length out))
-    unfolding normalise
-    refused-answer = rw stops (answer-stop (bundle_stop R s) number place (normal_length R s) h number_is place_is)
-
-    pub refused-bytes : out ≡ normalised R s out
-    unfolding normalised
-    refused-bytes = rw stops (refused_out (bundle_stop R s) number (normal R s) out h number_is)
+    pub normalised_refused : (out : List ℕ) → out ≡ normalised R s out
+    unfolding normalised normalise_stop
+    normalised_refused out = refused_output r (normalise_stop R s (length out)) (normal R s) out (refuses r (bundle_stop R s) (room_stop (normal_length R s) (length out)) e)
 
   -- accepted
-  module _ (z : number ≡ 0) where
-    sound : Accepted R s
-    sound = accepted R s (number_is ∙ z)
+  module _ (e : Examined) (ids : List (List ℕ)) (r : Read R s e ids) where
+    abbrev x : Examination R s e ids
+    x = r.says
 
-    n_is : n ≡ count s
-    n_is = x.count_is ∙ unrefused-go (bundle_stop R s) (count s) (number_is ∙ z)
+    abbrev records : List EntryRecord
+    records = take e.count e.rows
 
-    pub few : n ≤ 64
-    few = omega (arith, n_is, sound.frame.few)
+    pub counted : length records ≡ e.count
+    counted = length-take-le e.count e.rows (omega (arith, x.few, r.rows_room))
 
-    module _ (room : length lens ≡ 64) where
-      pub examined-filled : Filled s rows texts lens n
-      examined-filled = filled R L s s rows (row s) texts lens n few room (x.rows_are z) (x.held z) (λ k h. (sound.sense.in_range k (omega (arith, n_is))).within)
+    named : (k : ℕ) → k < length records → rows_of s records k ≡ row s k
+    unfolding rows_of record_at
+    named k h = let l : k < e.count = omega (arith, counted) in ap (row_of s) (get_or-take e.count e.rows k no_record l) ∙ x.rows_are k l
 
-      entries_are : given s rows texts lens n ≡ entries R s
-      entries_are =
-          given_is R L s s rows (row s) texts lens n few room (x.rows_are z) (x.held z) (λ k h. (sound.sense.in_range k (omega (arith, n_is))).within)
-          ∙ ap (λ k. entries_of R s k (row s)) n_is
+    pub examined-filled : Filled s records ids
+    examined-filled = filled R s s records ids (row s) (omega (arith, counted, x.few)) x.ids_room named (λ k h. x.ids_are k (omega (arith, counted))) (λ k h. (x.sound.sense.in_range k (omega (arith, counted, x.count_is))).within)
 
-      module _ (order : List ℕ) (fits : n ≤ length order) (o : take n order ≡ sort_by (text texts lens) (up_to n)) where
-        pub examined-placed : Placed s rows texts lens n order
-        examined-placed = sorted_placed s rows texts lens n examined-filled order fits o
+    examined-given : given s records ids ≡ entries R s
+    examined-given =
+        given_is R s s records ids (row s) (omega (arith, counted, x.few)) x.ids_room named (λ k h. x.ids_are k (omega (arith, counted))) (λ k h. (x.sound.sense.in_range k (omega (arith, counted, x.count_is))).within)
+        ∙ ap (λ k. entries_of R s k (row s)) (counted ∙ x.count_is)
 
-        abbrev es : List Entry
-        es = in_order s rows texts lens n order
+    -- its entries in order, in the first places of a list
+    pub sorted-values : (es : List Held) → values (take (length records) es) ≡ sort_by by_id (given s records ids) → values (take e.count es) ≡ sort_by by_id (entries R s)
+    sorted-values es h = ap (λ k. values (take k es)) (sym counted) ∙ h ∙ ap (sort_by by_id) examined-given
 
-        pub sorted_is : es ≡ sort_by by_id (entries R s)
-        sorted_is = sorted_entries s rows texts lens n examined-filled order fits o ∙ ap (sort_by by_id) entries_are
+    module _ (es : List Entry) (q : es ≡ sort_by by_id (entries R s)) where
+      length_is : packed_length es ≡ normal_length R s
+      unfolding normal_length
+      length_is = ap packed_length q ∙ sort_packed_length (entries R s)
 
-        length_is : packed_length es ≡ normal_length R s
-        unfolding normal_length
-        length_is = ap packed_length sorted_is ∙ sort_packed_length (entries R s)
+      goes : (room : ℕ) → room_stop (packed_length es) room ≡ normalise_stop R s room
+      unfolding normalise_stop
+      goes room = ap (λ k. room_stop k room) length_is ∙ sym (ap (λ t. t ⨾ room_stop (normal_length R s) room) (accepted-go R s x.sound) ∙ ⨾-go (room_stop (normal_length R s) room))
 
-        goes : (room : ℕ) → room_stop (packed_length es) room ≡ normalise_stop R s room
-        unfolding normalise_stop
-        goes room = ap (λ k. room_stop k room) length_is ∙ sym (ap (λ t. t ⨾ room_stop (normal_length R s) room) (accepted-go R s sound) ∙ ⨾-go (room_stop (normal_length R s) room))
+      pub accepted-answer : (room : ℕ) → answer (room_stop (packed_length es) room) (packed_length es) ≡ normalise R s room
+      unfolding normalise
+      accepted-answer room = ap₂ answer (goes room) length_is
 
-        pub accepted-answer : (room : ℕ) → answer (room_stop (packed_length es) room) (packed_length es) ≡ normalise R s room
-        unfolding normalise
-        accepted-answer room = ap₂ answer (goes room) length_is
-
-        pub accepted-bytes : (out : List ℕ) → output (room_stop (packed_length es) (length out)) (encode es) out ≡ normalised R s out
-        unfolding normalised normal
-        accepted-bytes out = ap₂ (λ t b. output t b out) (goes (length out)) (ap encode sorted_is)
+      pub accepted-bytes : (out : List ℕ) → output (room_stop (packed_length es) (length out)) (encode es) out ≡ normalised R s out
+      unfolding normalised normal
+      accepted-bytes out = ap₂ (λ t b. output t b out) (goes (length out)) (ap encode q)

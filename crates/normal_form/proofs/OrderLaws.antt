@@ -1,157 +1,128 @@
--- A list with one element moved up, and sorting index by index. Assumes nothing.
+-- Sorting in place: one element goes up among those behind it, which are in order. Assumes nothing.
 use Prim.Native.Nat.{ℕ, suc, ◌+◌, ◌-◌, ◌<◌, ◌≤◌}
 use native.Mathlib.Omega.{arith}
-use native.Mathlib.Numerals.{add-one}
-use mathlib.Core.Path.{◌≡◌, refl, sym, ap, ap₂, ◌∙◌, subst}
+use mathlib.Core.Path.{◌≡◌, refl, sym, ap, ap₂, ◌∙◌}
 use mathlib.Core.Bool.{true, false}
-use mathlib.Core.List.{List, [], ◌∷◌, ◌++◌, append_assoc, Memᴰ}
-use lib.ListN.{length, get_or, take, drop, set, length-append, length-drop, drop_of_length-le}
-use lib.Seq.{take-suc, drop-cons, set_at, take-set-lt, drop-set-add, drop-set-lt, get_or-drop, get_or-take, length-take-le, get_or-append-add}
+use mathlib.Core.List.{List, [], ◌∷◌, ◌++◌, append_assoc, append-nil}
+use lib.ListN.{length, get_or, take, drop, set, length-append, length-drop, take-append-drop, drop_of_length-le}
+use lib.Seq.{drop-cons, set_at, take_at, drop_at, take_all, take-take, get_or-drop, get_or-take, length-take-le}
+use Rattle.std.specs.List.{swap}
+use Rattle.std.proofs.lemmas.List.Edits.{swap_is}
+use borrow.Rule.Slice.PartMut.{put_mid}
 use Rattle.wire.specs.Bytes.{before}
-use Rattle.wire.specs.First.{first}
 use Rattle.wire.specs.Order.{insert_by, sort_by}
-use Rattle.wire.proofs.FirstLaws.{first_is, first-none}
-use Rattle.wire.proofs.ListLaws.{member_at, at_member}
-use Rattle.wire.proofs.SortLaws.{spot, insert_at, sort_drop, sort_out}
-use Rattle.wire.proofs.TabLaws.{length_tab, get_d_tab}
-use Rattle.normal_form.specs.Code.{up_to}
+use Rattle.wire.proofs.SortLaws.{sort_drop}
 
--- ---- one element at place p
+module _ {A : Type 0} (key : A → List ℕ) where
+  -- e went up past i - 1 of es: what is left to do from there on puts it in its place
+  pub record Sifted (e : A) (es now : List A) (i : ℕ) : Type 0 where
+    pub here : drop (i - 1) now ≡ e ∷ drop (i - 1) es
+    pub left : take (i - 1) now ++ insert_by key e (drop (i - 1) es) ≡ insert_by key e es
 
--- l with x before its p-th
-unfoldable pub mid : List ℕ → ℕ → ℕ → List ℕ
-mid l x p = take p l ++ (x ∷ drop p l)
+  pub sifted_none : (e : A) (es now : List A) → now ≡ e ∷ es → Sifted e es now 1
+  sifted_none e es now q = record { here = q; left = refl }
 
-pub mid_zero : (l : List ℕ) (x : ℕ) → x ∷ l ≡ mid l x 0
-unfolding mid
-mid_zero l x = refl
+  module _ (e d : A) (es now : List A) (i : ℕ) (low : 1 ≤ i) (s : Sifted e es now i) where
+    abbrev j : ℕ
+    j = i - 1
 
-module _ (l : List ℕ) (x p : ℕ) (h : p < length l) where
-  head : length (take p l) ≡ p
-  head = length-take-le p l (omega arith)
+    whole : take j now ++ (e ∷ drop j es) ≡ now
+    whole = ap (λ r. take j now ++ r) (sym s.here) ∙ take-append-drop j now
 
-  -- what stands after x
-  mid_next : get_or (mid l x p) (p + 1) 0 ≡ get_or l p 0
-  unfolding mid
-  mid_next =
-      ap (λ n. get_or (take p l ++ (x ∷ drop p l)) (n + 1) 0) (sym head)
-      ∙ get_or-append-add (take p l) (x ∷ drop p l) 1 0
-      ∙ ap (λ r. get_or (x ∷ r) 1 0) (drop-cons l p 0 h)
+    pub sifted_end : length now ≤ i → now ≡ insert_by key e es
+    unfolding insert_by
+    sifted_end h =
+        let n : drop j es ≡ [] = none (drop j es) (omega (arith, ap length s.here, length-drop j now)) in
+        sym whole ∙ ap (λ r. take j now ++ (e ∷ r)) n ∙ sym (ap (λ r. take j now ++ insert_by key e r) n) ∙ s.left
+      where
+        none : (l : List A) → length l ≤ 0 → l ≡ []
+        none [] h = refl
+        none (x ∷ l) h = absurd (omega arith)
 
-  -- x and what stands after it change places
-  mid_swap : set (set (mid l x p) p (get_or l p 0)) (p + 1) x ≡ mid l x (p + 1)
-  unfolding mid
-  mid_swap =
-      let y = get_or l p 0 in
-      let d = drop (suc p) l in
-      let a : take p l ++ (x ∷ drop p l) ≡ take p l ++ (x ∷ (y ∷ d)) = ap (λ r. take p l ++ (x ∷ r)) (drop-cons l p 0 h) in
-      let b : set (take p l ++ (x ∷ (y ∷ d))) p y ≡ take p l ++ (y ∷ (y ∷ d)) = set_at (take p l) x (y ∷ d) y p head in
-      let e : take p l ++ (y ∷ (y ∷ d)) ≡ (take p l ++ (y ∷ [])) ++ (y ∷ d) = simp append_assoc in
-      let n : length (take p l ++ (y ∷ [])) ≡ p + 1 = simp length-append (omega (arith, head)) in
-      let t : take p l ++ (y ∷ []) ≡ take (p + 1) l = sym (ap (λ k. take k l) (add-one p) ∙ take-suc l p 0 h) in
-      let u : d ≡ drop (p + 1) l = ap (λ k. drop k l) (sym (add-one p)) in
-      ap (λ r. set (set r p y) (p + 1) x) a ∙ ap (λ r. set r (p + 1) x) (b ∙ e)
-      ∙ set_at (take p l ++ (y ∷ [])) y d x (p + 1) n
-      ∙ ap₂ (λ r s. r ++ (x ∷ s)) t u
+    module _ (h : i < length now) where
+      abbrev f : A
+      f = get_or es j d
 
-module _ (key : ℕ → List ℕ) (x : ℕ) (l : List ℕ) (p : ℕ) (most : p ≤ length l) (after : (q : ℕ) → q < p → before (key x) (key (get_or l q 0)) ≡ false) where
-  -- x stops before the first that it stands before, or at the end
-  pub mid_stop : p < length l → before (key x) (key (get_or l p 0)) ≡ true → mid l x p ≡ insert_by key x l
-  unfolding mid spot
-  mid_stop h e =
-      let s : p ≡ first (length l) (λ j. before (key x) (key (get_or l j 0))) = sym (first_is (length l) (λ j. before (key x) (key (get_or l j 0))) p h e after) in
-      ap (λ k. take k l ++ (x ∷ drop k l)) s ∙ sym (insert_at key 0 x l)
+      behind : drop j es ≡ f ∷ drop (suc j) es
+      behind = drop-cons es j d (omega (arith, ap length s.here, length-drop j now, length-drop j es))
 
-  pub mid_end : length l ≤ p → mid l x p ≡ insert_by key x l
-  unfolding mid spot
-  mid_end h =
-      let s : p ≡ first (length l) (λ j. before (key x) (key (get_or l j 0))) = omega (arith, first-none (length l) (λ j. before (key x) (key (get_or l j 0))) (λ q k. after q (omega arith))) in
-      ap (λ k. take k l ++ (x ∷ drop k l)) s ∙ sym (insert_at key 0 x l)
+      at : length (take j now) ≡ j
+      at = length-take-le j now (omega arith)
 
--- ---- the part of an array from i to n
+      first : get_or now j d ≡ e
+      first = ap (λ k. get_or now k d) (let z : j ≡ j + 0 = omega arith in z) ∙ sym (get_or-drop j now 0 d) ∙ ap (λ l. get_or l 0 d) s.here
 
-module _ (i n : ℕ) (o : List ℕ) where
-  part_get : (q : ℕ) → i + q < n → get_or (drop i (take n o)) q 0 ≡ get_or o (i + q) 0
-  part_get q h = get_or-drop i (take n o) q 0 ∙ get_or-take n o (i + q) 0 h
+      second : get_or now i d ≡ f
+      second = ap (λ k. get_or now k d) (let z : i ≡ j + 1 = omega arith in z) ∙ sym (get_or-drop j now 1 d) ∙ ap (λ l. get_or l 1 d) (s.here ∙ ap (λ r. e ∷ r) behind)
 
-  part-set : (q v : ℕ) → i + q < n → drop i (take n (set o (i + q) v)) ≡ set (drop i (take n o)) q v
-  part-set q v h = ap (drop i) (take-set-lt n o (i + q) v h) ∙ drop-set-add i (take n o) q v
+      pub sifted_stop : before (key (get_or now j d)) (key (get_or now i d)) ≡ true → now ≡ insert_by key e es
+      unfolding insert_by
+      sifted_stop t =
+          let u : before (key e) (key f) ≡ true = rw (first, second) at t in
+          let p : insert_by key e (f ∷ drop (suc j) es) ≡ e ∷ f ∷ drop (suc j) es = rw u in
+          sym whole ∙ ap (λ r. take j now ++ (e ∷ r)) behind ∙ sym (ap (λ r. take j now ++ insert_by key e r) behind ∙ ap (λ r. take j now ++ r) p) ∙ s.left
 
-  pub part_length : n ≤ length o → length (drop i (take n o)) ≡ n - i
-  part_length h = length-drop i (take n o) ∙ ap (λ k. k - i) (length-take-le n o h)
+      abbrev r : List A
+      r = drop (suc j) es
 
--- one element more at the front
-module _ (i n : ℕ) (o : List ℕ) (h : i < n) (room : n ≤ length o) where
-  pub part_front : drop i (take n o) ≡ get_or o i 0 ∷ drop (i + 1) (take n o)
-  part_front =
-      let k : i < length (take n o) = omega (arith, length-take-le n o room) in
-      drop-cons (take n o) i 0 k ∙ ap₂ (λ x r. x ∷ drop r (take n o)) (get_or-take n o i 0 h) (sym (add-one i))
+      swapped : swap now j i ≡ (take j now ++ (f ∷ [])) ++ (e ∷ r)
+      swapped =
+          let n : take j now ++ (e ∷ (f ∷ r)) ≡ now = ap (λ l. take j now ++ (e ∷ l)) (sym behind) ∙ whole in
+          let q : length (take j now ++ (f ∷ [])) ≡ i = simp length-append (omega (arith, at)) in
+          sym (swap_is now j i d (omega arith) h)
+          ∙ ap₂ (λ x y. set (set now j x) i y) second first
+          ∙ ap (λ l. set (set l j f) i e) (sym n)
+          ∙ ap (λ l. set l i e) (set_at (take j now) e (f ∷ r) f j at ∙ (let a : take j now ++ (f ∷ (f ∷ r)) ≡ (take j now ++ (f ∷ [])) ++ (f ∷ r) = simp append_assoc in a))
+          ∙ set_at (take j now ++ (f ∷ [])) f r e i q
 
-  part-after : (v : ℕ) → drop (i + 1) (take n (set o i v)) ≡ drop (i + 1) (take n o)
-  part-after v = ap (drop (i + 1)) (take-set-lt n o i v h) ∙ drop-set-lt (i + 1) (take n o) i v (omega arith)
+      pub sifted_next : before (key (get_or now j d)) (key (get_or now i d)) ≡ false → Sifted e es (swap now j i) (i + 1)
+      unfolding insert_by
+      sifted_next t =
+          let u : before (key e) (key f) ≡ false = rw (first, second) at t in
+          let q : length (take j now ++ (f ∷ [])) ≡ i + 1 - 1 = simp length-append (omega (arith, at)) in
+          let z : suc j ≡ i + 1 - 1 = omega arith in
+          let p : insert_by key e (f ∷ r) ≡ f ∷ insert_by key e r = rw u in
+          record {
+            here = ap (drop (i + 1 - 1)) swapped ∙ drop_at (take j now ++ (f ∷ [])) (e ∷ r) (i + 1 - 1) q ∙ ap (λ k. e ∷ drop k es) z;
+            left =
+                ap₂ (λ a k. a ++ insert_by key e (drop k es)) (ap (take (i + 1 - 1)) swapped ∙ take_at (take j now ++ (f ∷ [])) (e ∷ r) (i + 1 - 1) q) (sym z)
+                ∙ append_assoc (take j now) (f ∷ []) (insert_by key e r)
+                ∙ ap (λ l. take j now ++ l) (sym p ∙ ap (insert_by key e) (sym behind))
+                ∙ s.left;
+          }
 
--- ---- a turn of the loop that moves i up: o is the array now, o₀ as the loop found it
+  -- ---- the sorted part grows to the front
 
-module _ (i n j : ℕ) (o o₀ : List ℕ) (le : i ≤ j) (more : j + 1 < n) (room₀ : n ≤ length o₀)
-    (e : drop i (take n o) ≡ mid (drop (i + 1) (take n o₀)) i (j - i))
-  where
-    abbrev rest : List ℕ
-    rest = drop (i + 1) (take n o₀)
+  pub record Sorted (l now : List A) (i : ℕ) : Type 0 where
+    pub front : take i now ≡ take i l
+    pub behind : drop i now ≡ sort_by key (drop i l)
 
-    inside : j - i < length rest
-    inside = omega (arith, part_length (i + 1) n o₀ room₀)
+  pub sorted_none : (l : List A) → Sorted l l (length l)
+  unfolding sort_by
+  sorted_none l = record {
+    front = refl;
+    behind = let n : drop (length l) l ≡ [] = drop_of_length-le l {i = length l} (omega arith) in rw n;
+  }
 
-    at : i + (j - i + 1) ≡ j + 1
-    at = omega arith
-
-    pub turn_next : get_or o (j + 1) 0 ≡ get_or rest (j - i) 0
-    turn_next =
-        ap (λ k. get_or o k 0) (sym at)
-        ∙ sym (part_get i n o (j - i + 1) (omega arith))
-        ∙ ap (λ r. get_or r (j - i + 1) 0) e
-        ∙ mid_next rest i (j - i) inside
-
-    pub turn_swap : drop i (take n (set (set o j (get_or o (j + 1) 0)) (j + 1) i)) ≡ mid rest i (j + 1 - i)
-    turn_swap =
-        let a : i + (j - i) ≡ j = omega arith in
-        let z : j - i + 1 ≡ j + 1 - i = omega arith in
-        ap₂ (λ s t. drop i (take n (set (set o s (get_or o (j + 1) 0)) t i))) (sym a) (sym at)
-        ∙ part-set i n (set o (i + (j - i)) (get_or o (j + 1) 0)) (j - i + 1) i (omega arith)
-        ∙ ap (λ r. set r (j - i + 1) i) (part-set i n o (j - i) (get_or o (j + 1) 0) (omega arith))
-        ∙ ap₂ (λ r v. set (set r (j - i) v) (j - i + 1) i) e turn_next
-        ∙ mid_swap rest i (j - i) inside
-        ∙ ap (mid rest i) z
-
--- ---- the indices in order
-
-up_to_at : (n i : ℕ) → i < n → get_or (up_to n) i 0 ≡ i
-unfolding up_to
-up_to_at n i h = get_d_tab n (λ k. k) i 0 h
-
-length_up_to : (n : ℕ) → length (up_to n) ≡ n
-unfolding up_to
-length_up_to n = length_tab n (λ k. k)
-
-up_to_below : (n v : ℕ) → Memᴰ v (up_to n) → v < n
-up_to_below n v m = let p = member_at (up_to n) 0 v m in omega (arith, p.2, up_to_at n p.0 (omega (arith, p.1, length_up_to n)), length_up_to n, p.1)
-
--- what stands in the sorted list are indices of entries
-pub sorted_below : (key : ℕ → List ℕ) (n : ℕ) (o : List ℕ) → n ≤ length o → take n o ≡ sort_by key (up_to n) → (k : ℕ) → k < n → get_or o k 0 < n
-sorted_below key n o room e k h =
-    let m : Memᴰ (get_or (take n o) k 0) (sort_by key (up_to n)) = subst (λ l. Memᴰ (get_or (take n o) k 0) l) e (at_member (take n o) 0 k (omega (arith, length-take-le n o room))) in
-    omega (arith, up_to_below n (get_or (take n o) k 0) (sort_out key (get_or (take n o) k 0) (up_to n) m), get_or-take n o k 0 h)
-
-pub sorted_none : (key : ℕ → List ℕ) (n : ℕ) (o : List ℕ) → n ≤ length o → drop n (take n o) ≡ sort_by key (drop n (up_to n))
-unfolding sort_by
-sorted_none key n o h =
-    let a : drop n (take n o) ≡ [] = drop_of_length-le (take n o) {i = n} (omega (arith, length-take-le n o h)) in
-    let b : drop n (up_to n) ≡ [] = drop_of_length-le (up_to n) {i = n} (omega (arith, length_up_to n)) in
-    rw (a, b)
-
--- a turn of the sort: i goes into the sorted part behind it
-pub sorted_next : (key : ℕ → List ℕ) (n i : ℕ) (o r : List ℕ) → i < n → n ≤ length o → drop (i + 1) (take n o) ≡ sort_by key (drop (i + 1) (up_to n))
-    → drop i (take n r) ≡ insert_by key i (drop (i + 1) (take n (set o i i))) → drop i (take n r) ≡ sort_by key (drop i (up_to n))
-sorted_next key n i o r l room e s =
-    let d : sort_by key (drop i (up_to n)) ≡ insert_by key i (sort_by key (drop (i + 1) (up_to n))) =
-    sort_drop key 0 (up_to n) i (omega (arith, length_up_to n)) ∙ ap₂ (λ x k. insert_by key x (sort_by key (drop k (up_to n)))) (up_to_at n i l) (sym (add-one i)) in
-    s ∙ ap (insert_by key i) (part-after i n o l room i ∙ e) ∙ sym d
+  -- the part from i on, one longer, once its first went up
+  pub sorted_next : (d : A) (l now part : List A) (i : ℕ) → 1 ≤ i → i ≤ length l → length now ≡ length l → length part ≡ length now - (i - 1) → Sorted l now i
+      → ((e : A) (es : List A) → take (length now - (i - 1)) (drop (i - 1) now) ≡ e ∷ es → part ≡ insert_by key e es)
+      → Sorted l (put_mid (i - 1) (length now - (i - 1)) now part) (i - 1)
+  sorted_next d l now part i low high same long s f =
+      let j : ℕ = i - 1 in
+      let z : suc j ≡ i = omega arith in
+      let rest : drop (length now - j) (drop j now) ≡ [] = drop_of_length-le (drop j now) {i = length now - j} (omega (arith, length-drop j now)) in
+      let whole : put_mid j (length now - j) now part ≡ take j now ++ part = ap (λ r. take j now ++ (part ++ r)) rest ∙ ap (λ r. take j now ++ r) (append-nil part) in
+      let at : length (take j now) ≡ j = length-take-le j now (omega arith) in
+      let same_at : get_or now j d ≡ get_or l j d = sym (get_or-take i now j d (omega arith)) ∙ ap (λ k. get_or k j d) s.front ∙ get_or-take i l j d (omega arith) in
+      let head : drop j now ≡ get_or now j d ∷ drop i now = drop-cons now j d (omega arith) ∙ ap (λ k. get_or now j d ∷ drop k now) z in
+      record {
+        front =
+            ap (take j) whole ∙ take_at (take j now) part j at
+            ∙ sym (take-take j i now (omega arith)) ∙ ap (take j) s.front ∙ take-take j i l (omega arith);
+        behind =
+            ap (drop j) whole ∙ drop_at (take j now) part j at
+            ∙ f (get_or now j d) (drop i now) (take_all (length now - j) (drop j now) (omega (arith, length-drop j now)) ∙ head)
+            ∙ ap₂ (insert_by key) same_at (s.behind ∙ ap (λ k. sort_by key (drop k l)) (sym z))
+            ∙ sym (sort_drop key d l j (omega arith));
+      }

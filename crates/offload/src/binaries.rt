@@ -2,6 +2,8 @@
 ghost use Rattle.std.specs.Prelude.{◌≡◌, length};
 ghost use Rattle.offload_binary.specs.Recovery.{recover, copied_to, skipped_to};
 
+use offload_binary::Recovered;
+
 #[unsafe(no_mangle)]
 pub extern "C" fn offload_recover_number(
     binaries: &[u8],
@@ -12,7 +14,7 @@ pub extern "C" fn offload_recover_number(
     ensures out_after { out.new ≡ copied_to binaries.now (length spans.old) out.old }
     ensures spans_after { spans.new ≡ skipped_to binaries.now (length out.old) spans.old }
 {
-    offload_binary_recovery::recover(binaries, out, spans).number as u64
+    Recovered::from(offload_binary_recovery::recover(binaries, out, spans)).number as u64
 }
 
 #[unsafe(no_mangle)]
@@ -25,7 +27,7 @@ pub extern "C" fn offload_recover_place(
     ensures out_after { out.new ≡ copied_to binaries.now (length spans.old) out.old }
     ensures spans_after { spans.new ≡ skipped_to binaries.now (length out.old) spans.old }
 {
-    offload_binary_recovery::recover(binaries, out, spans).place as u64
+    Recovered::from(offload_binary_recovery::recover(binaries, out, spans)).place as u64
 }
 
 #[unsafe(no_mangle)]
@@ -38,7 +40,7 @@ pub extern "C" fn offload_recover_length(
     ensures out_after { out.new ≡ copied_to binaries.now (length spans.old) out.old }
     ensures spans_after { spans.new ≡ skipped_to binaries.now (length out.old) spans.old }
 {
-    offload_binary_recovery::recover(binaries, out, spans).length as u64
+    Recovered::from(offload_binary_recovery::recover(binaries, out, spans)).length as u64
 }
 
 #[unsafe(no_mangle)]
@@ -51,5 +53,5 @@ pub extern "C" fn offload_recover_spans(
     ensures out_after { out.new ≡ copied_to binaries.now (length spans.old) out.old }
     ensures spans_after { spans.new ≡ skipped_to binaries.now (length out.old) spans.old }
 {
-    offload_binary_recovery::recover(binaries, out, spans).spans as u64
+    Recovered::from(offload_binary_recovery::recover(binaries, out, spans)).spans as u64
 }

@@ -1,4 +1,5 @@
-// The C calls. Each does the whole job and returns one number of the answer.
+// The C calls. Each does the whole job and returns one number of the answer. C has no generic functions: each number, and each reading, has a name of its own.
+// C gets each number as 64 bits, as `usize` is here: std has no `From` between them, so `as` casts.
 #![tactic(auto)]
 
 mod amdgpu;
@@ -14,60 +15,62 @@ ghost use Rattle.bundle.specs.EntryAt.{entry_at};
 ghost use Rattle.bundle.specs.Normal.{normalise, normalised};
 ghost use Rattle.bundle.specs.Differences.{report, reported};
 
+use bundle::{Checked, Found, Located, Picked, PickedEach, Written};
+
 #[unsafe(no_mangle)]
 pub extern "C" fn offload_check_number(bundle: &[u8]) -> u64
     ensures { result ≡ (check id_rules bundle.now).number }
 {
-    bundle_reader::check(bundle).number as u64
+    Checked::from(bundle_reader::check(bundle)).number as u64
 }
 
 #[unsafe(no_mangle)]
 pub extern "C" fn offload_check_place(bundle: &[u8]) -> u64
     ensures { result ≡ (check id_rules bundle.now).place }
 {
-    bundle_reader::check(bundle).place as u64
+    Checked::from(bundle_reader::check(bundle)).place as u64
 }
 
 #[unsafe(no_mangle)]
 pub extern "C" fn offload_check_count(bundle: &[u8]) -> u64
     ensures { result ≡ (check id_rules bundle.now).count }
 {
-    bundle_reader::check(bundle).count as u64
+    Checked::from(bundle_reader::check(bundle)).count as u64
 }
 
 #[unsafe(no_mangle)]
 pub extern "C" fn offload_pick_number(bundle: &[u8], device: &[u8]) -> u64
     ensures { result ≡ (pick id_rules bundle.now device.now).number }
 {
-    bundle_reader::pick(bundle, device).number as u64
+    Picked::from(bundle_reader::pick(bundle, device)).number as u64
 }
 
 #[unsafe(no_mangle)]
 pub extern "C" fn offload_pick_place(bundle: &[u8], device: &[u8]) -> u64
     ensures { result ≡ (pick id_rules bundle.now device.now).place }
 {
-    bundle_reader::pick(bundle, device).place as u64
+    Picked::from(bundle_reader::pick(bundle, device)).place as u64
 }
 
 #[unsafe(no_mangle)]
 pub extern "C" fn offload_pick_index(bundle: &[u8], device: &[u8]) -> u64
     ensures { result ≡ (pick id_rules bundle.now device.now).index }
 {
-    bundle_reader::pick(bundle, device).index as u64
+    Picked::from(bundle_reader::pick(bundle, device)).index as u64
 }
 
 #[unsafe(no_mangle)]
 pub extern "C" fn offload_pick_position(bundle: &[u8], device: &[u8]) -> u64
     ensures { result ≡ (pick id_rules bundle.now device.now).position }
 {
-    bundle_reader::pick(bundle, device).position
+    Picked::from(bundle_reader::pick(bundle, device)).position
 }
 
 #[unsafe(no_mangle)]
 pub extern "C" fn offload_pick_size(bundle: &[u8], device: &[u8]) -> u64
     ensures { result ≡ (pick id_rules bundle.now device.now).size }
 {
-    bundle_reader::pick(bundle, device).size
+    Picked::from(bundle_reader::pick(bundle, device)).size
 }
 
 #[unsafe(no_mangle)]
@@ -80,7 +83,7 @@ pub extern "C" fn offload_pick_each_number(
     ensures value { result ≡ (pick_each id_rules bundle.now buffer.now names.now (length slots.old)).number }
     ensures slots_after { slots.new ≡ slots_after id_rules bundle.now buffer.now names.now slots.old }
 {
-    bundle_reader::pick_each(bundle, buffer, names, slots).number as u64
+    PickedEach::from(bundle_reader::pick_each(bundle, buffer, names, slots)).number as u64
 }
 
 #[unsafe(no_mangle)]
@@ -93,7 +96,7 @@ pub extern "C" fn offload_pick_each_place(
     ensures value { result ≡ (pick_each id_rules bundle.now buffer.now names.now (length slots.old)).place }
     ensures slots_after { slots.new ≡ slots_after id_rules bundle.now buffer.now names.now slots.old }
 {
-    bundle_reader::pick_each(bundle, buffer, names, slots).place as u64
+    PickedEach::from(bundle_reader::pick_each(bundle, buffer, names, slots)).place as u64
 }
 
 #[unsafe(no_mangle)]
@@ -106,7 +109,7 @@ pub extern "C" fn offload_pick_each_slots(
     ensures value { result ≡ (pick_each id_rules bundle.now buffer.now names.now (length slots.old)).slots }
     ensures slots_after { slots.new ≡ slots_after id_rules bundle.now buffer.now names.now slots.old }
 {
-    bundle_reader::pick_each(bundle, buffer, names, slots).slots as u64
+    PickedEach::from(bundle_reader::pick_each(bundle, buffer, names, slots)).slots as u64
 }
 
 #[unsafe(no_mangle)]
@@ -119,7 +122,7 @@ pub extern "C" fn offload_pick_each_word(
     ensures value { result ≡ (pick_each id_rules bundle.now buffer.now names.now (length slots.old)).word }
     ensures slots_after { slots.new ≡ slots_after id_rules bundle.now buffer.now names.now slots.old }
 {
-    bundle_reader::pick_each(bundle, buffer, names, slots).word
+    PickedEach::from(bundle_reader::pick_each(bundle, buffer, names, slots)).word
 }
 
 #[unsafe(no_mangle)]
@@ -132,84 +135,84 @@ pub extern "C" fn offload_pick_each_taken(
     ensures value { result ≡ (pick_each id_rules bundle.now buffer.now names.now (length slots.old)).taken }
     ensures slots_after { slots.new ≡ slots_after id_rules bundle.now buffer.now names.now slots.old }
 {
-    bundle_reader::pick_each(bundle, buffer, names, slots).taken as u64
+    PickedEach::from(bundle_reader::pick_each(bundle, buffer, names, slots)).taken as u64
 }
 
 #[unsafe(no_mangle)]
 pub extern "C" fn offload_lookup_number(patch: &[u8], main: &[u8], device: &[u8]) -> u64
     ensures { result ≡ (lookup id_rules patch.now main.now device.now).number }
 {
-    bundle_lookup::find_image(patch, main, device).number as u64
+    Found::from(bundle_lookup::find_image(patch, main, device)).number as u64
 }
 
 #[unsafe(no_mangle)]
 pub extern "C" fn offload_lookup_place(patch: &[u8], main: &[u8], device: &[u8]) -> u64
     ensures { result ≡ (lookup id_rules patch.now main.now device.now).place }
 {
-    bundle_lookup::find_image(patch, main, device).place as u64
+    Found::from(bundle_lookup::find_image(patch, main, device)).place as u64
 }
 
 #[unsafe(no_mangle)]
 pub extern "C" fn offload_lookup_bundle(patch: &[u8], main: &[u8], device: &[u8]) -> u64
     ensures { result ≡ (lookup id_rules patch.now main.now device.now).bundle }
 {
-    bundle_lookup::find_image(patch, main, device).bundle as u64
+    Found::from(bundle_lookup::find_image(patch, main, device)).bundle as u64
 }
 
 #[unsafe(no_mangle)]
 pub extern "C" fn offload_lookup_position(patch: &[u8], main: &[u8], device: &[u8]) -> u64
     ensures { result ≡ (lookup id_rules patch.now main.now device.now).position }
 {
-    bundle_lookup::find_image(patch, main, device).position
+    Found::from(bundle_lookup::find_image(patch, main, device)).position
 }
 
 #[unsafe(no_mangle)]
 pub extern "C" fn offload_lookup_size(patch: &[u8], main: &[u8], device: &[u8]) -> u64
     ensures { result ≡ (lookup id_rules patch.now main.now device.now).size }
 {
-    bundle_lookup::find_image(patch, main, device).size
+    Found::from(bundle_lookup::find_image(patch, main, device)).size
 }
 
 #[unsafe(no_mangle)]
 pub extern "C" fn offload_entry_number(bundle: &[u8], index: usize) -> u64
     ensures { result ≡ (entry_at id_rules bundle.now index).number }
 {
-    bundle_reader::entry(bundle, index).number as u64
+    Located::from(bundle_reader::entry(bundle, index)).number as u64
 }
 
 #[unsafe(no_mangle)]
 pub extern "C" fn offload_entry_place(bundle: &[u8], index: usize) -> u64
     ensures { result ≡ (entry_at id_rules bundle.now index).place }
 {
-    bundle_reader::entry(bundle, index).place as u64
+    Located::from(bundle_reader::entry(bundle, index)).place as u64
 }
 
 #[unsafe(no_mangle)]
 pub extern "C" fn offload_entry_position(bundle: &[u8], index: usize) -> u64
     ensures { result ≡ (entry_at id_rules bundle.now index).position }
 {
-    bundle_reader::entry(bundle, index).position
+    Located::from(bundle_reader::entry(bundle, index)).position
 }
 
 #[unsafe(no_mangle)]
 pub extern "C" fn offload_entry_size(bundle: &[u8], index: usize) -> u64
     ensures { result ≡ (entry_at id_rules bundle.now index).size }
 {
-    bundle_reader::entry(bundle, index).size
+    Located::from(bundle_reader::entry(bundle, index)).size
 }
 
 #[unsafe(no_mangle)]
 pub extern "C" fn offload_entry_id_position(bundle: &[u8], index: usize) -> u64
     ensures { result ≡ (entry_at id_rules bundle.now index).id_position }
 {
-    bundle_reader::entry(bundle, index).id_position as u64
+    Located::from(bundle_reader::entry(bundle, index)).id_position as u64
 }
 
 #[unsafe(no_mangle)]
 pub extern "C" fn offload_entry_id_length(bundle: &[u8], index: usize) -> u64
     ensures { result ≡ (entry_at id_rules bundle.now index).id_length }
 {
-    bundle_reader::entry(bundle, index).id_length as u64
+    Located::from(bundle_reader::entry(bundle, index)).id_length as u64
 }
 
 #[unsafe(no_mangle)]
@@ -217,7 +220,7 @@ pub extern "C" fn offload_normalise_number(bundle: &[u8], out: &mut [u8]) -> u64
     ensures value { result ≡ (normalise id_rules bundle.now (length out.old)).number }
     ensures out_after { out.new ≡ normalised id_rules bundle.now out.old }
 {
-    normal_form::normalise(bundle, out).number as u64
+    Written::from(normal_form::normalise(bundle, out)).number as u64
 }
 
 #[unsafe(no_mangle)]
@@ -225,7 +228,7 @@ pub extern "C" fn offload_normalise_place(bundle: &[u8], out: &mut [u8]) -> u64
     ensures value { result ≡ (normalise id_rules bundle.now (length out.old)).place }
     ensures out_after { out.new ≡ normalised id_rules bundle.now out.old }
 {
-    normal_form::normalise(bundle, out).place as u64
+    Written::from(normal_form::normalise(bundle, out)).place as u64
 }
 
 #[unsafe(no_mangle)]
@@ -233,7 +236,7 @@ pub extern "C" fn offload_normalise_length(bundle: &[u8], out: &mut [u8]) -> u64
     ensures value { result ≡ (normalise id_rules bundle.now (length out.old)).length }
     ensures out_after { out.new ≡ normalised id_rules bundle.now out.old }
 {
-    normal_form::normalise(bundle, out).length as u64
+    Written::from(normal_form::normalise(bundle, out)).length as u64
 }
 
 #[unsafe(no_mangle)]

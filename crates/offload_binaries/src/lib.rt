@@ -2,53 +2,42 @@
 #![tactic(auto)]
 
 ghost use Rattle.std.specs.Prelude.{◌≡◌};
-ghost use Rattle.offload_binary.specs.Binary.{refused};
 ghost use Rattle.offload_binary.specs.Reader.{opened, next};
+ghost use Rattle.offload_binary.specs.Results.{answer_of, step_of};
 ghost use Rattle.offload_binaries.specs.Held.{answered, moved};
 
-use offload_binary::{Answer, Cursor, Step};
+use offload_binary::{Binary, Cursor};
+use wire::{Reason, Refusal};
 
-fn stopped(number: usize, cursor: Cursor) -> Step
-    ensures { result ≡ record { answer = refused number cursor.position; cursor = cursor } }
-{
-    let answer = offload_binary_reader::refused(number, cursor.position);
-    Step { answer, cursor }
-}
+// Most bytes in a sequence, and most binaries.
+const LIMIT: usize = 1073741824;
 
-// What the next call of a reader answers, and where the reader then stands.
-pub fn next_at(s: &[u8], cursor: Cursor) -> Step
-    ensures { result ≡ next s.now cursor }
+const BINARIES: usize = 64;
+
+// The binary at a cursor, and the cursor behind it.
+pub fn next_at(s: &[u8], cursor: Cursor) -> Result<(Binary, Cursor), Refusal>
+    ensures { step_of cursor result ≡ next s.now cursor }
 {
-    let position = cursor.position;
-    let taken = cursor.taken;
-    if 1073741824 < s.len() {
-        return stopped(1, cursor);
+    let Cursor { position, taken } = cursor;
+    if LIMIT < s.len() {
+        return Err(Reason::Length.at(position));
     }
     if position == s.len() {
-        return stopped(19, cursor);
+        return Err(Reason::End.at(position));
     }
-    if 64 <= taken {
-        return stopped(18, cursor);
+    if BINARIES <= taken {
+        return Err(Reason::Many.at(position));
     }
-    let answer = offload_binary_reader::binary_at(s, position);
-    if answer.number != 0 {
-        return Step { answer, cursor };
-    }
-    let binary = answer.binary;
-    let size = binary.size;
-    let next = position + size;
-    let count = taken + 1;
-    Step {
-        answer,
-        cursor: Cursor {
-            position: next,
-            taken: count,
-        },
-    }
+    let binary = offload_binary_reader::binary_at(s, position)?;
+    let behind = Cursor {
+        position: position + binary.size,
+        taken: taken + 1,
+    };
+    Ok((binary, behind))
 }
 
 // A reader, opened on lent bytes.
-#[derive(Drop)]
+#[derive(Clone, Drop)]
 pub struct Reader<'a> {
     pub bytes: &'a [u8],
     pub cursor: Cursor,
@@ -69,11 +58,11 @@ impl<'a> Reader<'a> {
     }
 
     // The next binary: the reader goes past it, or stays where it was refused or ended.
-    pub fn next(&mut self) -> Answer
-        ensures { (result ≡ answered self.old) × (self.new ≡ moved self.old) }
+    pub fn next(&mut self) -> Result<Binary, Refusal>
+        ensures { (answer_of result ≡ answered self.old) × (self.new ≡ moved self.old) }
     {
-        let step = next_at(self.bytes, self.cursor);
-        self.cursor = step.cursor;
-        step.answer
+        let (binary, cursor) = next_at(self.bytes, self.cursor)?;
+        self.cursor = cursor;
+        Ok(binary)
     }
 }

@@ -1,11 +1,14 @@
 -- Laws of one binary: parts, and what the tests 13 to 17 leave where they do not apply. Assumes nothing.
-use Prim.Native.Nat.{ℕ, ◌+◌, ◌-◌, ◌≤◌}
+use Prim.Native.Nat.{ℕ, min, ◌+◌, ◌-◌, ◌<◌, ◌≤◌}
 use native.Mathlib.Omega.{arith}
 use mathlib.Core.Path.{◌≡◌, refl, sym, ap, ◌∙◌}
 use mathlib.Core.Bool.{false, not, ◌||◌}
-use mathlib.Core.List.{List, []}
+use mathlib.Core.List.{List}
 use lib.ListN.{length, take, drop, length-drop, drop_of_length-le}
 use lib.Dec.{ltb, eqb}
+use mathlib.Core.Logic.{⊎_elim}
+use Rattle.std.proofs.lemmas.Bool.{cases_lt}
+use Rattle.std.proofs.lemmas.List.{take_min}
 use lib.Seq.{length-take-le, take_all}
 use borrow.Author.Tests.{ltb-false}
 use Rattle.wire.specs.Word.{word}
@@ -16,16 +19,19 @@ use Rattle.offload_binary.specs.declared.Part.{Part}
 
 -- ---- parts
 
-pub rest_is : (k : ℕ) (s : List ℕ) → take (length s - k) (drop k s) ≡ drop k s
-rest_is k s = take_all (length s - k) (drop k s) (omega (arith, length-drop k s))
-
-pub part_none : (s : List ℕ) (p : Part) → length s ≤ p.start → [] ≡ bytes_at s p
+-- a part, cut off where the bytes end
+pub part_cut : (s : List ℕ) (p : Part) (a n : ℕ) → a ≡ min p.start (length s) → n ≡ min p.len (length (take (length s - a) (drop a s))) → take n (take (length s - a) (drop a s)) ≡ bytes_at s p
 unfolding bytes_at
-part_none s p h = sym (ap (take p.len) (drop_of_length-le s {i = p.start} h) ∙ take_all p.len [] (omega arith))
-
-pub part_rest : (s : List ℕ) (p : Part) → length s - p.start ≤ p.len → drop p.start s ≡ bytes_at s p
-unfolding bytes_at
-part_rest s p h = sym (take_all p.len (drop p.start s) (omega (arith, length-drop p.start s)))
+part_cut s p a n e f =
+    let rest : List ℕ = take (length s - a) (drop a s) in
+    ap (λ k. take k rest) f ∙ take_min p.len rest ∙ ap (take p.len) (take_all (length s - a) (drop a s) (omega (arith, length-drop a s)) ∙ from)
+  where
+    from : drop a s ≡ drop p.start s
+    from =
+        ⊎_elim
+        (λ (h : length s < p.start). let z : a ≡ length s = omega arith in ap (λ k. drop k s) z ∙ drop_of_length-le s {i = length s} (omega arith) ∙ sym (drop_of_length-le s {i = p.start} (omega arith)))
+        (λ (h : p.start ≤ length s). let z : a ≡ p.start = omega arith in ap (λ k. drop k s) z)
+        (cases_lt (length s) p.start)
 
 pub part_is : (s : List ℕ) (p : Part) → take p.len (drop p.start s) ≡ bytes_at s p
 unfolding bytes_at

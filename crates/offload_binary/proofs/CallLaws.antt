@@ -1,92 +1,69 @@
 -- The writer's refusals, as code tries them one after another. Assumes nothing.
-use Prim.Native.Nat.{ℕ, suc, ◌+◌, ◌*◌, ◌/◌, ◌%◌, ◌<◌, ◌≤◌}
+use Prim.Native.Nat.{ℕ, suc, ◌+◌, ◌<◌, ◌≤◌}
 use native.Mathlib.Omega.{arith}
-use mathlib.Core.Path.{◌≡◌, sym, ap, ap₂, ◌∙◌}
-use mathlib.Core.Bool.{true, false, ◌||◌, cond, or-true}
-use mathlib.Core.List.{List, [], ◌++◌}
-use lib.ListN.{length, get_or, drop, length-take, length-drop}
+use mathlib.Core.Path.{◌≡◌, sym, ap, ◌∙◌}
+use mathlib.Core.Bool.{true, false, ◌||◌}
+use mathlib.Core.List.{List, ◌++◌}
+use lib.ListN.{length, get_or, take, drop, length-take, length-drop}
 use lib.Dec.{ltb, eqb}
-use borrow.Author.Tests.{lt-ltb, le-ltb, ltb-false, eqb-true, eqb-false}
+use borrow.Author.Tests.{lt-ltb, le-ltb, ltb-false, eqb-false}
 use Rattle.wire.specs.Limit.{limit}
 use Rattle.wire.specs.Bytes.{same, overwrite}
 use Rattle.wire.specs.First.{any_below}
 use Rattle.wire.specs.Stop.{◌⨾◌, stop_if, stop_when, earlier}
-use Rattle.wire.proofs.Bools.{by_bool, or_neither}
-use Rattle.wire.proofs.FirstLaws.{any_some, any_none, any_same, none_any}
-use Rattle.wire.proofs.StopLaws.{earlier-same}
+use Rattle.wire.proofs.Bools.{or_neither}
+use Rattle.wire.proofs.FirstLaws.{none_any}
 use Rattle.wire.proofs.OverwriteLaws.{overwrite_in}
-use Rattle.offload_binary.specs.Binary.{bytes_at, ended, bad_kinds, no_pair, key_in, bad_keys}
+use Rattle.offload_binary.specs.Binary.{bytes_at, ended, bad_kinds, no_pair, key_in}
 use Rattle.offload_binary.specs.Contents.{Contents, image_start, image_end, binary_size, written, too_big}
+use Rattle.offload_binary.specs.declared.Part.{Part}
 use Rattle.offload_binary.specs.declared.StringPair.{StringPair}
-use Rattle.wire.proofs.TabLaws.{get_d_tab}
 use Rattle.offload_binary.proofs.WrittenLaws.{up8_le, length-written}
-use Rattle.offload_binary.specs.Writer.{bad_part, bad_pair, bad_pairs, given, write_stop, output_by, write, listed}
-use Rattle.offload_binary.specs.Arrays.{part_in, text_in}
+use Rattle.offload_binary.specs.Writer.{bad_part, bad_pair, bad_pairs, given, write_stop, output_by, write}
 use Rattle.offload_binary.specs.declared.Tags.{Tags}
 use Rattle.offload_binary.specs.declared.Written.{Written}
-use Rattle.offload_binary.proofs.TextLaws.{part-key, part-text, length-listed}
 
--- ---- 16, over the first n pairs of an array
+-- ---- 16, and what holds where it is not given
 
-module _ (buf : List ℕ) (pairs : List StringPair) (n : ℕ) where
-  abbrev l : List StringPair
-  l = listed pairs n
+-- a part is as long as it says, and has no zero byte
+pub record PartFits (buf : List ℕ) (p : Part) : Type 0 where
+  pub long : length (bytes_at buf p) ≡ p.len
+  pub short : p.len ≤ 256
+  pub clean : ended (bytes_at buf p) ≡ false
 
-  listed_at : (i : ℕ) → i < n → get_or l i no_pair ≡ get_or pairs i no_pair
-  unfolding listed
-  listed_at i h = get_d_tab n (λ k. get_or pairs k no_pair) i no_pair h
+part-fits : (buf : List ℕ) (p : Part) → bad_part buf p ≡ false → PartFits buf p
+unfolding bad_part bytes_at
+part-fits buf p e =
+    let a = or_neither (ltb (length buf) (p.start + p.len) || ltb 256 p.len) (ended (take p.len (drop p.start buf))) e in
+    let b = or_neither (ltb (length buf) (p.start + p.len)) (ltb 256 p.len) a.0 in
+    let inside : p.start + p.len ≤ length buf = ltb-false _ _ b.0 in
+    record { long = simp (length-take, length-drop) (omega arith); short = ltb-false _ _ b.1; clean = a.1 }
 
-  -- the definition, over the array
-  pairs_is : bad_pairs buf l ≡ (ltb 32 n || any_below n (λ i. bad_pair buf (get_or pairs i no_pair)) || any_below n (earlier same (key_in buf pairs)))
-  unfolding bad_pairs key_in
-  pairs_is =
-      rw (length-listed pairs n)
-      (ap₂ (λ x y. ltb 32 n || x || y)
-      (any_same n (λ i. bad_pair buf (get_or l i no_pair)) (λ i. bad_pair buf (get_or pairs i no_pair)) (λ i h. ap (bad_pair buf) (listed_at i h)))
-      (any_same n _ _ (earlier-same same n (key_in buf l) (key_in buf pairs) (λ i h. ap (λ p. bytes_at buf p.key) (listed_at i h)))))
+pub record PairFits (buf : List ℕ) (p : StringPair) : Type 0 where
+  pub key : PartFits buf p.key
+  pub text : PartFits buf p.text
+  pub some : p.key.len ≡ 0 → ⊥
 
-  pub pairs_many : 32 < n → true ≡ bad_pairs buf l
-  pairs_many h = rw (pairs_is, lt-ltb _ _ h)
+pub pair-fits : (buf : List ℕ) (p : StringPair) → bad_pair buf p ≡ false → PairFits buf p
+unfolding bad_pair
+pair-fits buf p e =
+    let a = or_neither (bad_part buf p.key || bad_part buf p.text) (eqb p.key.len 0) e in
+    let b = or_neither (bad_part buf p.key) (bad_part buf p.text) a.0 in
+    record { key = part-fits buf p.key b.0; text = part-fits buf p.text b.1; some = eqb-false _ _ a.1 }
 
-  module _ (few : n ≤ 32) where
-    pub pairs_bad : (i : ℕ) → i < n → bad_pair buf (get_or pairs i no_pair) ≡ true → true ≡ bad_pairs buf l
-    pairs_bad i h e = rw (pairs_is, any_some n (λ k. bad_pair buf (get_or pairs k no_pair)) i h e, or-true)
+module _ (buf : List ℕ) (pairs : List StringPair) (good : bad_pairs buf pairs ≡ false) where
+  facts : ((ltb 32 (length pairs) || any_below (length pairs) (λ i. bad_pair buf (get_or pairs i no_pair))) ≡ false) × (any_below (length pairs) (earlier same (key_in buf pairs)) ≡ false)
+  unfolding bad_pairs
+  facts = or_neither _ _ good
 
-    pub pairs_keys : ((i : ℕ) → i < n → bad_pair buf (get_or pairs i no_pair) ≡ false) → bad_keys buf pairs n ≡ bad_pairs buf l
-    unfolding bad_keys
-    pairs_keys h = rw (pairs_is, le-ltb _ _ few, any_none n (λ k. bad_pair buf (get_or pairs k no_pair)) h)
+  pub few_pairs : length pairs ≤ 32
+  few_pairs = ltb-false _ _ (or_neither (ltb 32 (length pairs)) _ facts.0).0
 
-  -- where 16 is not given: each string is short
-  module _ (good : bad_pairs buf l ≡ false) where
-    facts : ((ltb 32 n || any_below n (λ i. bad_pair buf (get_or pairs i no_pair))) ≡ false) × (any_below n (earlier same (key_in buf pairs)) ≡ false)
-    facts = or_neither _ _ (sym pairs_is ∙ good)
+  pub pair-good : (i : ℕ) → i < length pairs → bad_pair buf (get_or pairs i no_pair) ≡ false
+  pair-good = none_any (length pairs) (λ i. bad_pair buf (get_or pairs i no_pair)) (or_neither (ltb 32 (length pairs)) _ facts.0).1
 
-    pub few_pairs : n ≤ 32
-    few_pairs = ltb-false _ _ (or_neither (ltb 32 n) _ facts.0).0
-
-    pub pair-good : (i : ℕ) → i < n → bad_pair buf (get_or pairs i no_pair) ≡ false
-    pair-good = none_any n (λ i. bad_pair buf (get_or pairs i no_pair)) (or_neither (ltb 32 n) _ facts.0).1
-
-    pub part-good : (j : ℕ) → j < 2 * n → bad_part buf (part_in pairs j) ≡ false
-    unfolding bad_pair
-    part-good j h =
-        let p = get_or pairs (j / 2) no_pair in
-        let a = or_neither (bad_part buf p.key || bad_part buf p.text) (eqb p.key.len 0) (pair-good (j / 2) (omega arith)) in
-        let c = or_neither (bad_part buf p.key) (bad_part buf p.text) a.0 in
-        by_bool (eqb (j % 2) 0)
-        (λ t. ap (bad_part buf) (sym (part-key pairs j (eqb-true _ _ t))) ∙ c.0)
-        (λ f. ap (bad_part buf) (sym (part-text pairs j (eqb-false _ _ f))) ∙ c.1)
-
-    pub keys_differ : (i : ℕ) → i < n → earlier same (key_in buf pairs) i ≡ false
-    keys_differ = none_any n (earlier same (key_in buf pairs)) facts.1
-
-    pub short-texts : (j : ℕ) → j < 2 * n → length (text_in buf pairs j) ≤ 256
-    unfolding bad_part text_in bytes_at
-    short-texts j h =
-        let p = part_in pairs j in
-        let a = or_neither (ltb (length buf) (p.start + p.len) || ltb 256 p.len) (ended (bytes_at buf p)) (part-good j h) in
-        let b : p.len ≤ 256 = ltb-false _ _ (or_neither (ltb (length buf) (p.start + p.len)) (ltb 256 p.len) a.0).1 in
-        simp (length-take, length-drop) (omega arith)
+  pub keys_differ : (i : ℕ) → i < length pairs → earlier same (key_in buf pairs) i ≡ false
+  keys_differ = none_any (length pairs) (earlier same (key_in buf pairs)) facts.1
 
 -- ---- the call
 
@@ -155,14 +132,3 @@ module _ (tags : Tags) (image : List ℕ) (l : List StringPair) (buf out : List 
               ap (λ m. record { number = 0; place = 0; len = m }) e ∙ ap (λ o. o.answer) w,
               q ∙ overwrite_in out 0 (written g) (omega arith) ∙ ap (λ m. written g ++ drop m out) z ∙ ap (λ o. o.out) w,
             )
-
-  -- of a list of more than 32 pairs nothing else is asked
-  many_bad : 32 < length l → bad_pairs buf l ≡ true
-  unfolding bad_pairs
-  many_bad h = rw (lt-ltb _ _ h)
-
-  pub call_many : 32 < length l → write tags image l buf out ≡ output_by (cond (bad_kinds tags.image_kind tags.offload_kind) 15 16) [] out
-  call_many h =
-      by_bool (bad_kinds tags.image_kind tags.offload_kind)
-      (λ t. back 15 (stop-kinds t) ∙ rw t)
-      (λ f. back 16 (stop_pairs f (many_bad h)) ∙ rw f)

@@ -1,3 +1,4 @@
+pub mod ResultLaws
 pub mod ListLaws
 pub mod AllLaws
 pub mod BinaryLaws
@@ -12,7 +13,6 @@ pub mod TextLaws
 pub mod CallLaws
 pub mod WritableLaws
 pub mod WriterTheorems
-pub mod GatherLaws
 pub mod ExamplesProof
 pub mod RecoveryLaws
 pub mod TailLaws

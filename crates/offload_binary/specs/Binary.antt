@@ -136,9 +136,9 @@ binary_stop b =
 unfoldable pub key_in : List ℕ → List StringPair → ℕ → List ℕ
 key_in s pairs i = bytes_at s (get_or pairs i no_pair).key
 
--- "more than 32" of them, or "equal keys" among the first n
-unfoldable pub bad_keys : List ℕ → List StringPair → ℕ → Bool
-bad_keys s pairs n = ltb 32 n || any_below n (earlier same (key_in s pairs))
+-- "equal keys"
+unfoldable pub equal_keys : List ℕ → List StringPair → Bool
+equal_keys s pairs = any_below (length pairs) (earlier same (key_in s pairs))
 
 -- ---- what a binary hands back: "first byte, size, kinds, flags, place and length of the image and of each key and text, places counted from the strip's first byte"
 

@@ -5,9 +5,9 @@ pub mod Theorems
 pub mod Reader
 pub mod SequenceTheorems
 pub mod Writer
-pub mod Arrays
 pub mod WriterTheorems
 pub mod Examples
 pub mod Recovery
+pub mod Results
 pub mod RecoveryTheorems
 pub mod RecoveryExamples

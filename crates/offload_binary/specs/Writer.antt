@@ -3,7 +3,6 @@ use Rattle.std.specs.Prelude.{ℕ, zero, suc, ◌+◌, Bool, ◌||◌, List, ◌
 use Rattle.wire.specs.Bytes.{same}
 use Rattle.wire.specs.First.{any_below}
 use Rattle.wire.specs.Stop.{Stop, ◌⨾◌, stop_if, earlier}
-use Rattle.wire.specs.Lists.{tab}
 use Rattle.offload_binary.specs.Binary.{bytes_at, ended, bad_kinds, no_pair, key_in}
 use Rattle.offload_binary.specs.Contents.{Contents, key_text, binary_size, written, too_big}
 use Rattle.offload_binary.specs.declared.Part.{Part}
@@ -41,11 +40,6 @@ module _ (tags : Tags) (image : List ℕ) (pairs : List StringPair) (buf : List 
       ⨾ stop_if 16 (bad_pairs buf pairs)
       ⨾ stop_if 11 (too_big given)
       ⨾ stop_if 12 (ltb room (binary_size given))
-
--- ---- the list of n pairs that an array of 32 holds the first of
-
-unfoldable pub listed : List StringPair → ℕ → List StringPair
-listed array n = tab n (λ i. get_or array i no_pair)
 
 -- ---- what comes back: the answer, and the lent output
 

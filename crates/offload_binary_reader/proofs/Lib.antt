@@ -1,5 +1,2 @@
-pub mod StringLaws
-pub mod PairLaws
-pub mod HeadLaws
+pub mod ReadLaws
 pub mod BodyLaws
-pub mod AtLaws

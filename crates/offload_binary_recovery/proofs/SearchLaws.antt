@@ -9,6 +9,7 @@ use lib.ListN.{length, get_or, take, drop, replicate, set, length-append, take-a
 use lib.Seq.{set_at, drop-drop, get_or-drop, get_or-take}
 use lib.Dec.{eqb, ltb}
 use borrow.Author.Tests.{eqb-true, eq-eqb}
+use Rattle.std.proofs.Common.{Some, None}
 use Rattle.wire.specs.Bytes.{same}
 use Rattle.wire.specs.Lists.{joined}
 use Rattle.wire.specs.Stop.{◌⨾◌, stop_if, stop_when}
@@ -85,27 +86,16 @@ size_at s p = ap (word_of 8) (sym (drop-drop 8 p s))
 pub none_more : (s : List ℕ) (p k : ℕ) → (k < p → passes s k ≡ false) → passes s p ≡ false → k < p + 1 → passes s k ≡ false
 none_more s p k below here h = by_lt k p below (λ g. let e : k ≡ p = omega arith in ap (passes s) e ∙ here)
 
--- a block of positions, one more looked at
-pub block_more : (s : List ℕ) (p i : ℕ) (hit this : Bool) → (hit ≡ false → NonePasses s p (p + i)) → (this ≡ false → passes s (p + i) ≡ false) → (hit || this) ≡ false → NonePasses s p (p + (i + 1))
-block_more s p i hit this f g e k a h = let n = or_neither hit this e in none_more s (p + i) k (λ m. f n.0 k a m) (g n.1) (omega arith)
+-- one more position of a block looked at
+pub block_more : (s : List ℕ) (p at : ℕ) (hit this : Bool) → (hit ≡ false → NonePasses s p at) → (this ≡ false → passes s at ≡ false) → (hit || this) ≡ false → NonePasses s p (at + 1)
+block_more s p at hit this f g e k a h = let n = or_neither hit this e in none_more s at k (λ m. f n.0 k a m) (g n.1) h
 
--- none passes before a place, and then the lowest behind it
-pub none_then : (s : List ℕ) (from at to r : ℕ) → from ≤ at → NonePasses s from at → LowestBetween s at to r → LowestBetween s from to r
-none_then s from at to r h f g = record {
-  low = omega (arith, g.low);
-  high = g.high;
-  none_before = λ i a l. by_lt i at (λ m. f i a m) (λ m. g.none_before i m l);
-  here = g.here;
-}
+-- the lowest of all
+pub lowest-found : (s : List ℕ) (cursor p : ℕ) → LowestBetween s cursor (length s) (Some p) → p ≡ lowest s cursor
+lowest-found s cursor p g = sym (lowest_is s cursor p g.0 g.1 g.3 g.2)
 
--- the lowest of all, where one passes before the second place, or that is the end
-pub lowest-found : (s : List ℕ) (cursor to r : ℕ) → to ≤ length s → LowestBetween s cursor to r → (to ≤ r → length s ≤ to) → r ≡ lowest s cursor
-lowest-found s cursor to r h g end =
-    by_lt r to
-    (λ l. sym (lowest_is s cursor r g.low (omega arith) (g.here l) g.none_before))
-    (λ l.
-    let e : r ≡ length s = omega (arith, g.high, end l) in
-    e ∙ sym (lowest-none s cursor (omega (arith, g.low)) (λ i a m. g.none_before i a (omega arith))))
+pub lowest-missed : (s : List ℕ) (cursor : ℕ) → cursor ≤ length s → LowestBetween s cursor (length s) None → length s ≤ lowest s cursor
+lowest-missed s cursor h g = omega (arith, lowest-none s cursor h g)
 
 -- the binary found
 found_lies : (s : List ℕ) (cursor p : ℕ) → p ≡ lowest s cursor → p < length s → Lies s (part_at s p)

@@ -1,5 +1,5 @@
 -- What the private functions promise each other. No public promise rests on this file.
-use Rattle.std.specs.Prelude.{ℕ, ◌-◌, ◌<◌, ◌≤◌, ◌≡◌, true, false, List, ◌++◌, map, length, drop, replicate}
+use Rattle.std.specs.Prelude.{ℕ, ◌-◌, ◌<◌, ◌≤◌, ◌≡◌, true, false, List, ◌++◌, map, length, drop, replicate, Option, MatchOption}
 use Rattle.wire.specs.Rows.{Added}
 use Rattle.offload_binary.specs.Binary.{no_part}
 use Rattle.offload_binary.specs.Reader.{end_to_end}
@@ -11,12 +11,9 @@ use Rattle.offload_binary.specs.declared.Part.{Part}
 abbrev pub NonePasses : List ℕ → ℕ → ℕ → Type 0
 NonePasses s from to = (i : ℕ) → from ≤ i → i < to → passes s i ≡ false
 
--- p is the lowest position between the two at which one does, or the second place
-pub record LowestBetween (s : List ℕ) (from to p : ℕ) : Type 0 where
-  pub low : from ≤ p
-  pub high : p ≤ to
-  pub none_before : NonePasses s from p
-  pub here : p < to → passes s p ≡ true
+-- the lowest position between the two at which one does, if any
+abbrev pub LowestBetween : List ℕ → ℕ → ℕ → Option ℕ → Type 0
+LowestBetween s from to r = MatchOption r (NonePasses s from to) (λ p. (from ≤ p) × (p < to) × NonePasses s from p × (passes s p ≡ true))
 
 -- parts in an array of 65
 abbrev pub Filled : List Part → List Part → Type 0
@@ -44,8 +41,7 @@ pub record Finding (s : List ℕ) (n cursor total : ℕ) (list : List Part) : Ty
   pub rest : taken s ≡ done ++ takes (65 - n) s cursor
 
 -- the binaries from i on are left, and what was skipped before them was put
-pub record Skipping (s : List ℕ) (n room : ℕ) (out : List (List ℕ)) (i cursor k : ℕ) (after : List (List ℕ)) : Type 0 where
-  pub low : i ≤ n
+pub record Skipping (s : List ℕ) (room : ℕ) (out : List (List ℕ)) (i cursor k : ℕ) (after : List (List ℕ)) : Type 0 where
   pub inside : cursor ≤ length s
   pub left : TakenFrom s cursor (drop i (taken s))
   pub done : List Part

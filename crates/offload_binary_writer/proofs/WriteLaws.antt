@@ -1,23 +1,22 @@
 -- What the writer's parts leave, one behind another. Assumes nothing.
-use Prim.Native.Nat.{ℕ, zero, suc, ◌+◌, ◌*◌, ◌-◌, ◌/◌, ◌%◌, ◌<◌, ◌≤◌}
+use Prim.Native.Nat.{ℕ, suc, ◌+◌, ◌*◌, ◌/◌, ◌%◌, ◌<◌, ◌≤◌}
 use native.Mathlib.Numerals.{add-one}
 use native.Mathlib.Omega.{arith}
-use mathlib.Core.Path.{◌≡◌, refl, sym, ap, ap₂, ◌∙◌}
-use mathlib.Core.List.{List, [], ◌∷◌, ◌++◌}
-use lib.ListN.{length, get_or, drop, length-append, length-drop}
+use mathlib.Core.Path.{◌≡◌, refl, sym, ap, ◌∙◌}
+use mathlib.Core.List.{List, [], ◌∷◌, ◌++◌, map}
+use lib.ListN.{length, get_or, take, drop, length-append, length-take, length-drop, length-map}
 use lib.Seq.{drop-cons}
 use Rattle.wire.specs.Word.{bytes_of}
 use Rattle.wire.specs.Bytes.{overwrite}
 use Rattle.wire.proofs.WordLaws.{length_bytes_of}
-use Rattle.wire.proofs.OverwriteLaws.{overwrite_then, overwrite-apart, length-overwrite}
-use Rattle.wire.specs.Lists.{tab}
-use Rattle.offload_binary.specs.Binary.{magic}
-use Rattle.offload_binary.specs.Contents.{◌∶◌, field_bytes, string_bytes, offsets}
-use Rattle.wire.proofs.TabLaws.{length_tab}
-use Rattle.offload_binary.proofs.WrittenLaws.{length-offsets}
-use Rattle.offload_binary_writer.specs.Code.{word_bytes, tags_word, head_words}
+use Rattle.wire.proofs.OverwriteLaws.{overwrite_nil, overwrite_then, overwrite-apart, length-overwrite}
+use Rattle.offload_binary.specs.Binary.{magic, bytes_at, no_pair}
+use Rattle.offload_binary.specs.Contents.{key_text, texts, ◌∶◌, field_bytes, string_bytes, offsets}
+use Rattle.offload_binary.proofs.WrittenLaws.{length-offsets, length-texts}
+use Rattle.offload_binary.specs.declared.StringPair.{StringPair}
+use Rattle.offload_binary_writer.specs.Code.{strings, laid, word_bytes, tags_word, head_words}
 use Rattle.offload_binary.specs.declared.Tags.{Tags}
-use Rattle.offload_binary.proofs.TextLaws.{strings_more, length_more, offsets_more}
+use Rattle.offload_binary.proofs.TextLaws.{strings_more, offsets_more, length_more, pair_more, strings_within}
 
 -- ---- header and entry
 
@@ -64,42 +63,67 @@ unfolding head_words word_bytes field_bytes bytes_of
 head_are tags count image len size =
     ap (λ l. bytes_of 8 7198539536 ++ (bytes_of 8 size ++ (bytes_of 8 32 ++ (bytes_of 8 40 ++ (l ++ (bytes_of 8 72 ++ (bytes_of 8 count ++ (bytes_of 8 image ++ (bytes_of 8 len ++ []))))))))) (sym (tags_are tags))
 
--- ---- a turn of the loop over the strings
+-- ---- one string more, behind those that stand there
 
-module _ (d : List ℕ) (f : ℕ → List ℕ) (first : ℕ) where
-  abbrev pub offs : ℕ → List ℕ
-  offs j = field_bytes (offsets first (tab j f))
+pub string_turn : (d : List ℕ) (first : ℕ) (xs : List (List ℕ)) (x : List ℕ) → 72 + 8 * length xs + 8 ≤ first → first + length (string_bytes xs) + length x + 1 ≤ length d
+    → (o out : List ℕ) (field at : ℕ) → o ≡ laid first xs d → field ≡ 72 + 8 * length xs → at ≡ first + length (string_bytes xs) → out ≡ overwrite (overwrite o field (bytes_of 8 at)) at (x ++ (0 ∷ []))
+    → out ≡ laid first (xs ++ (x ∷ [])) d
+string_turn d first xs x below room o out field at e f a q =
+    let offs : List ℕ = field_bytes (offsets first xs) in
+    let strs : List ℕ = string_bytes xs in
+    let w : List ℕ = bytes_of 8 at in
+    let more : List ℕ = field_bytes (offsets first (xs ++ (x ∷ []))) in
+    let lw : length w ≡ 8 = length_bytes_of 8 at in
+    let lo : length offs ≡ 8 * length xs = length-offsets first xs in
+    let grown : offs ++ w ≡ more = ap (λ k. offs ++ bytes_of 8 k) a ∙ sym (offsets_more xs first x) in
+    q
+    ∙ ap (λ y. overwrite (overwrite y field w) at (x ++ (0 ∷ []))) e
+    ∙ ap (λ y. overwrite y at (x ++ (0 ∷ []))) (overwrite-apart (overwrite d 72 offs) w strs field first (omega arith) (omega (arith, length-overwrite d 72 offs)))
+    ∙ ap (λ y. overwrite (overwrite y first strs) at (x ++ (0 ∷ []))) (overwrite_then d 72 field offs w (omega arith) (omega arith) ∙ ap (overwrite d 72) grown)
+    ∙ overwrite_then (overwrite d 72 more) first at strs (x ++ (0 ∷ [])) (sym a) (omega (arith, length-append x (0 ∷ []), length-overwrite d 72 more))
+    ∙ ap (overwrite (overwrite d 72 more) first) (sym (strings_more xs x))
 
-  abbrev pub strs : ℕ → List ℕ
-  strs j = string_bytes (tab j f)
+-- ---- the pairs, one after another
 
-  length_offs : (j : ℕ) → length (offs j) ≡ 8 * j
-  length_offs j = length-offsets first (tab j f) ∙ ap (8 *◌) (length_tab j f)
+module _ (d buf : List ℕ) (pairs : List StringPair) (first : ℕ) (start : first ≡ 72 + 16 * length pairs) (room : first + length (string_bytes (strings buf pairs)) ≤ length d) (i : ℕ) (more : i < length pairs) where
+  abbrev pair : StringPair
+  pair = get_or pairs i no_pair
 
-  -- what is written after j turns: the offsets, and the strings from `first` on
-  abbrev pub laid : ℕ → List ℕ
-  laid j = overwrite (overwrite d 72 (offs j)) first (strs j)
+  abbrev key : List ℕ
+  key = bytes_at buf pair.key
 
-  offsets_turn : (j : ℕ) → 72 + 8 * j + 8 ≤ first → first + length (strs j) ≤ length d
-      → overwrite (laid j) (72 + 8 * j) (bytes_of 8 (first + length (strs j))) ≡ overwrite (overwrite d 72 (offs (j + 1))) first (strs j)
-  offsets_turn j below room =
-      let w : List ℕ = bytes_of 8 (first + length (strs j)) in
-      let l : length w ≡ 8 = length_bytes_of 8 (first + length (strs j)) in
-      overwrite-apart (overwrite d 72 (offs j)) w (strs j) (72 + 8 * j) first (omega arith) (omega (arith, length-overwrite d 72 (offs j)))
-      ∙ ap (λ o. overwrite o first (strs j)) (overwrite_then d 72 (72 + 8 * j) (offs j) w (omega (arith, length_offs j)) (omega arith) ∙ ap (overwrite d 72) (sym (offsets_more f first j)))
+  abbrev text : List ℕ
+  text = bytes_at buf pair.text
 
-  pub strings_grow : (k j : ℕ) → length (strs j) ≤ length (strs (j + k))
-  strings_grow zero j = let z : j ≡ j + 0 = omega arith in omega (arith, ap (λ i. length (strs i)) z)
-  strings_grow (suc k) j = let z : j + suc k ≡ j + k + 1 = omega arith in omega (arith, strings_grow k j, length_more f (j + k), ap (λ i. length (strs i)) z)
+  abbrev before : List (List ℕ)
+  before = strings buf (take i pairs)
 
-  pub strings_room : (j m : ℕ) → j < m → first + length (strs m) ≤ length d → first + length (strs j) + length (f j) + 1 ≤ length d
-  strings_room j m h room = let z : j + 1 + (m - (j + 1)) ≡ m = omega arith in omega (arith, strings_grow (m - (j + 1)) (j + 1), ap (λ i. length (strs i)) z, length_more f j)
+  -- how long they are with this pair, and without it
+  length_before : length before ≡ 2 * i
+  length_before = length-texts (map (key_text buf) (take i pairs)) ∙ omega (arith, length-map (take i pairs) (key_text buf), length-take i pairs)
 
-  pub strings_turn : (out o x : List ℕ) (j at : ℕ) → 72 + 8 * j + 8 ≤ first → first + length (strs j) + length (f j) + 1 ≤ length d
-      → o ≡ laid j → at ≡ first + length (strs j) → x ≡ f j → out ≡ overwrite o (72 + 8 * j) (bytes_of 8 at)
-      → overwrite out at (x ++ (0 ∷ [])) ≡ laid (j + 1)
-  strings_turn out o x j at below room e a q w =
-      let d' : List ℕ = overwrite d 72 (offs (j + 1)) in
-      ap₂ (λ p y. overwrite p at (y ++ (0 ∷ []))) (w ∙ ap₂ (λ p k. overwrite p (72 + 8 * j) (bytes_of 8 k)) e a ∙ offsets_turn j below (omega arith)) q
-      ∙ overwrite_then d' first at (strs j) (f j ++ (0 ∷ [])) (sym a) (omega (arith, length-append (f j) (0 ∷ []), length-overwrite d 72 (offs (j + 1))))
-      ∙ ap (overwrite d' first) (sym (strings_more f j))
+  length_key : length (before ++ (key ∷ [])) ≡ 2 * i + 1
+  length_key = simp length-append (omega (arith, length_before))
+
+  bytes_key : length (string_bytes (before ++ (key ∷ []))) ≡ length (string_bytes before) + length key + 1
+  bytes_key = length_more before key
+
+  pub bytes_text : length (string_bytes (strings buf (take (i + 1) pairs))) ≡ length (string_bytes before) + length key + 1 + length text + 1
+  bytes_text = ap (λ xs. length (string_bytes xs)) (pair_more buf pairs i more) ∙ omega (arith, length_more (before ++ (key ∷ [])) text, bytes_key)
+
+  pub pair_room : first + length (string_bytes before) + length key + 1 + length text + 1 ≤ length d
+  pair_room = omega (arith, bytes_text, strings_within buf pairs (i + 1))
+
+  -- o is what stands there before, p when the key is written, and q when the text is
+  module _ (k t : List ℕ) (k_is : k ≡ key) (t_is : t ≡ text) (o p q : List ℕ) (at behind : ℕ) (o_is : o ≡ laid first before d) (at_is : at ≡ first + length (string_bytes before)) (behind_is : behind ≡ at + length k + 1) where
+    pub pair_turn : p ≡ overwrite (overwrite o (72 + 16 * i) (bytes_of 8 at)) at (k ++ (0 ∷ [])) → q ≡ overwrite (overwrite p (72 + 16 * i + 8) (bytes_of 8 behind)) behind (t ++ (0 ∷ []))
+        → q ≡ laid first (strings buf (take (i + 1) pairs)) d
+    pair_turn p_is q_is =
+        string_turn d first (before ++ (key ∷ [])) text (omega (arith, length_key, start)) (omega (arith, bytes_key, pair_room)) p q (72 + 16 * i + 8) behind
+        (string_turn d first before key (omega (arith, length_before, start)) (omega (arith, pair_room)) o p (72 + 16 * i) at o_is (omega (arith, length_before)) at_is (p_is ∙ ap (λ x. overwrite (overwrite o (72 + 16 * i) (bytes_of 8 at)) at (x ++ (0 ∷ []))) k_is))
+        (omega (arith, length_key)) (omega (arith, bytes_key, ap length k_is)) (q_is ∙ ap (λ x. overwrite (overwrite p (72 + 16 * i + 8) (bytes_of 8 behind)) behind (x ++ (0 ∷ []))) t_is)
+        ∙ ap (λ xs. laid first xs d) (sym (pair_more buf pairs i more))
+
+pub laid_none : (d buf : List ℕ) (first : ℕ) → d ≡ laid first (strings buf []) d
+unfolding texts offsets field_bytes string_bytes
+laid_none d buf first = sym (overwrite_nil (overwrite d 72 []) first ∙ overwrite_nil d 72)

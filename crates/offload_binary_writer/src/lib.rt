@@ -1,15 +1,22 @@
 // Writes one of LLVM's offload binaries over a lent output.
+// Numbers are cast to words by `as`: both have 64 bits here, and std has no `From` between them.
 #![tactic(auto)]
 
-ghost use Rattle.std.specs.Prelude.{◌≡◌, ◌++◌, ℕ, ◌+◌, ◌*◌, ◌<◌, ◌≤◌, length, replicate};
+ghost use Rattle.std.specs.Prelude.{◌≡◌, ◌++◌, [], ◌∷◌, false, ◌+◌, ◌*◌, ◌<◌, ◌≤◌, All, length, replicate, sum_by};
+ghost use Rattle.std.specs.List.{list_any};
+ghost use Rattle.wire.specs.Word.{bytes_of};
 ghost use Rattle.wire.specs.Bytes.{overwrite};
-ghost use Rattle.wire.specs.Lists.{tab};
-ghost use Rattle.offload_binary.specs.Contents.{field_bytes, offsets, string_bytes, up8, written};
-ghost use Rattle.offload_binary.specs.Writer.{listed, bad_part, bad_pair, bad_pairs, given, write};
-ghost use Rattle.offload_binary.specs.Arrays.{part_in, text_in};
-ghost use Rattle.offload_binary_writer.specs.Code.{LayoutIs, word_bytes, head_words, image_bytes};
+ghost use Rattle.offload_binary.specs.Binary.{ended};
+ghost use Rattle.offload_binary.specs.Contents.{string_bytes, up8, written};
+ghost use Rattle.offload_binary.specs.Writer.{bad_part, bad_pair, bad_pairs, given, write};
+ghost use Rattle.offload_binary.specs.Results.{written_of};
+ghost use Rattle.offload_binary_writer.specs.Code.{IsShort, pair_len, strings, laid, LayoutIs, word_bytes, head_words, image_bytes};
 
-use offload_binary::{Part, StringPair, Tags, Written};
+use offload_binary::{Part, StringPair, Tags};
+use wire::{Reason, Refusal};
+
+// Most bytes in a binary, and in an image.
+const LIMIT: usize = 1073741824;
 
 // Where the parts of a binary stand: its strings from `strings` to `end`, its image from `image` to `stop`.
 #[derive(Clone, Copy)]
@@ -21,77 +28,63 @@ struct Layout {
     size: usize,
 }
 
+fn has_zero(text: &[u8]) -> bool
+    ensures { result ≡ ended text.now }
+{
+    text.contains(&0)
+}
+
 // 16 of a part of the string buffer: outside it, over 256 bytes, or with a zero byte inside.
+#[tactic(auto, unfolding(offload_binary::specs::Writer::bad_part))]
 fn bad_part(buf: &[u8], part: Part) -> bool
     ensures { result ≡ bad_part buf.now part }
 {
-    let start = part.start;
-    let len = part.len;
-    if offload_binary_parts::passes(buf.len(), start, len) {
-        return true;
-    }
-    if 256 < len {
-        return true;
-    }
-    let text = offload_binary_parts::bytes_at(buf, part);
-    offload_binary_parts::before_zero(text) < text.len()
+    offload_binary_parts::passes(buf.len(), part.start, part.len)
+        || 256 < part.len
+        || has_zero(offload_binary_parts::bytes_at(buf, part))
 }
 
 // 16 of a pair.
+#[tactic(auto, unfolding(offload_binary::specs::Writer::bad_pair))]
 fn bad_pair(buf: &[u8], pair: StringPair) -> bool
     ensures { result ≡ bad_pair buf.now pair }
 {
-    let key = pair.key;
-    let text = pair.text;
-    if bad_part(buf, key) {
-        return true;
-    }
-    if bad_part(buf, text) {
-        return true;
-    }
-    key.len == 0
+    bad_part(buf, pair.key) || bad_part(buf, pair.text) || pair.key.len == 0
 }
 
-// The part that holds string j: the key of a pair, then its text.
-fn part_in(pairs: [StringPair; 32], j: usize) -> Part
-    requires { j < 64 }
-    ensures { result ≡ part_in pairs j }
+fn has_bad_pair(buf: &[u8], pairs: &[StringPair]) -> bool
+    ensures { result ≡ list_any (bad_pair buf.now) pairs.now }
 {
-    let pair = pairs[j / 2];
-    if j % 2 == 0 {
-        return pair.key;
-    }
-    pair.text
+    pairs.iter().any(|pair| bad_pair(buf, *pair))
 }
 
-fn text_in<'a>(buf: &'a [u8], pairs: [StringPair; 32], j: usize) -> &'a [u8]
-    requires { j < 64 }
-    ensures { result.now ≡ text_in buf.now pairs j }
+// 16.
+#[tactic(auto, using(crate::proofs::PartLaws::any_bad), unfolding(offload_binary::specs::Writer::bad_pairs, offload_binary::specs::Binary::equal_keys))]
+fn bad_pairs(buf: &[u8], pairs: &[StringPair]) -> bool
+    ensures { result ≡ bad_pairs buf.now pairs.now }
 {
-    offload_binary_parts::bytes_at(buf, part_in(pairs, j))
+    32 < pairs.len() || has_bad_pair(buf, pairs) || offload_binary_parts::has_equal_keys(buf, pairs)
 }
 
-// How long the first m strings are with their zero bytes.
-fn texts_len(buf: &[u8], pairs: [StringPair; 32], m: usize) -> usize
-    requires { (m ≤ 64) × ((j : ℕ) → j < m → length (text_in buf.now pairs j) ≤ 256) }
-    ensures { (result ≡ length (string_bytes (tab m (text_in buf.now pairs)))) × (result ≤ 257 * m) }
+// How long the strings of pairs are with their zero bytes.
+fn strings_len(pairs: &[StringPair]) -> usize
+    requires { (length pairs.now ≤ 32) × All IsShort pairs.now }
+    ensures { (result ≡ sum_by pair_len pairs.now) × (result ≤ 514 * length pairs.now) }
 {
-    let mut at = 0;
-    let mut j = 0;
-    while j < m {
-        let text = text_in(buf, pairs, j);
-        at = at + text.len() + 1;
-        j += 1;
+    let mut len = 0;
+    for pair in pairs {
+        len += pair.key.len + pair.text.len + 2;
     }
-    at
+    len
 }
 
 // The next multiple of 8.
+#[tactic(auto, unfolding(offload_binary::specs::Contents::up8))]
 fn up_to_8(n: usize) -> usize
     requires { n ≤ 4294967296 }
     ensures { result ≡ up8 n }
 {
-    (n + 7) / 8 * 8
+    n.next_multiple_of(8)
 }
 
 // n zero bytes at `at`.
@@ -117,58 +110,68 @@ fn put_words(out: &mut [u8], words: &[u64])
     requires { 8 * length words.now ≤ length out.old }
     ensures { out.new ≡ overwrite out.old 0 (word_bytes words.now) }
 {
-    let mut i = 0;
-    while i < words.len() {
-        wire_write::put_word8(out, 8 * i, words[i]);
-        i += 1;
+    for (i, word) in words.iter().enumerate() {
+        wire_write::put_word8(out, 8 * i, *word);
     }
 }
 
-// The header and the entry: the first word is the magic number and the version, the fifth the kinds and the flags.
-fn write_head(out: &mut [u8], tags: Tags, count: usize, image: usize, len: usize, size: usize)
+// The header and the entry of a binary with `count` pairs and an image of `len` bytes: the first word is the magic number and the version, the fifth the
+// kinds and the flags, so that all fields have one width.
+#[tactic(auto, unfolding(crate::specs::Code::head_words, crate::specs::Code::tags_word))]
+fn write_head(out: &mut [u8], tags: Tags, count: usize, len: usize, at: Layout)
     requires { 72 ≤ length out.old }
-    ensures { out.new ≡ overwrite out.old 0 (word_bytes (head_words tags count image len size)) }
+    ensures { out.new ≡ overwrite out.old 0 (word_bytes (head_words tags count at.image len at.size)) }
 {
-    let flags = tags.flags as u64;
+    let flags = u64::from(tags.flags);
     let kinds = tags.image_kind % 65536 + 65536 * (tags.offload_kind % 65536 + 65536 * flags);
-    let words = [
-        0x1AD10FF10,
-        size as u64,
-        32,
-        40,
-        kinds,
-        72,
-        count as u64,
-        image as u64,
-        len as u64,
-    ];
-    put_words(out, &words);
+    put_words(
+        out,
+        &[
+            0x1AD10FF10,
+            at.size as u64,
+            32,
+            40,
+            kinds,
+            72,
+            count as u64,
+            at.image as u64,
+            len as u64,
+        ],
+    );
 }
 
-// The offsets of the first m strings, at 72, and the strings with their zero bytes, from `first` on.
-fn write_strings(out: &mut [u8], buf: &[u8], pairs: [StringPair; 32], m: usize, first: usize)
-    requires { (first + length (string_bytes (tab m (text_in buf.now pairs))) ≤ length out.old) × ((m ≤ 64) × (first ≡ 72 + 8 * m)) }
-    ensures { out.new ≡ overwrite (overwrite out.old 72 (field_bytes (offsets first (tab m (text_in buf.now pairs))))) first (string_bytes (tab m (text_in buf.now pairs))) }
+// A string with its zero byte at `at`, and that offset in a field before it. The next string stands at what is returned.
+fn put_string(out: &mut [u8], field: usize, at: usize, text: &[u8]) -> usize
+    requires { (field + 8 ≤ at) × (at + length text.now + 1 ≤ length out.old) }
+    ensures { (result ≡ at + length text.now + 1) × (out.new ≡ overwrite (overwrite out.old field (bytes_of 8 at)) at (text.now ++ 0 ∷ [])) }
+{
+    wire_write::put_word8(out, field, at as u64);
+    put_padded(out, at, text, 1);
+    at + text.len() + 1
+}
+
+// The offsets of the pairs' strings, at 72, and the strings with their zero bytes, from `first` on.
+fn write_strings(out: &mut [u8], buf: &[u8], pairs: &[StringPair], first: usize)
+    requires { (first ≡ 72 + 16 * length pairs.now) × (length pairs.now ≤ 32) × (first + length (string_bytes (strings buf.now pairs.now)) ≤ length out.old) }
+    ensures { out.new ≡ laid first (strings buf.now pairs.now) out.old }
 {
     let mut at = first;
-    let mut j = 0;
-    while j < m {
-        let text = text_in(buf, pairs, j);
-        let place = 72 + 8 * j;
-        wire_write::put_word8(out, place, at as u64);
-        put_padded(out, at, text, 1);
-        at = at + text.len() + 1;
-        j += 1;
+    for (i, pair) in pairs.iter().enumerate() {
+        let field = 72 + 16 * i;
+        let key = offload_binary_parts::bytes_at(buf, pair.key);
+        let text = offload_binary_parts::bytes_at(buf, pair.text);
+        at = put_string(out, field, at, key);
+        at = put_string(out, field + 8, at, text);
     }
 }
 
-// Where the parts of a binary with the first n pairs and an image of `len` bytes stand.
-fn places(buf: &[u8], pairs: [StringPair; 32], n: usize, len: usize) -> Layout
-    requires { (n ≤ 32) × ((len ≤ 1073741824) × ((j : ℕ) → j < 2 * n → length (text_in buf.now pairs j) ≤ 256)) }
-    ensures { LayoutIs (text_in buf.now pairs) n len result }
+// Where the parts of a binary with these pairs and an image of `len` bytes stand.
+fn places(pairs: &[StringPair], len: usize) -> Layout
+    requires { (length pairs.now ≤ 32) × All IsShort pairs.now × (len ≤ 1073741824) }
+    ensures { LayoutIs pairs.now len result }
 {
-    let strings = 72 + 16 * n;
-    let end = strings + texts_len(buf, pairs, 2 * n);
+    let strings = 72 + 16 * pairs.len();
+    let end = strings + strings_len(pairs);
     let image = up_to_8(end);
     let stop = image + len;
     let size = up_to_8(stop);
@@ -186,10 +189,8 @@ fn write_image(out: &mut [u8], image: &[u8], at: Layout)
     requires { (at.image ≡ up8 at.end) × ((at.stop ≡ at.image + length image.now) × ((at.size ≡ up8 at.stop) × (at.size ≤ length out.old))) }
     ensures { out.new ≡ overwrite out.old at.end (image_bytes at image.now) }
 {
-    let end = at.end;
-    let start = at.image;
-    put_zeros(out, end, start - end);
-    put_padded(out, start, image, at.size - at.stop);
+    put_zeros(out, at.end, at.image - at.end);
+    put_padded(out, at.image, image, at.size - at.stop);
 }
 
 // The whole binary, from the start of the output on.
@@ -197,78 +198,45 @@ fn write_parts(
     out: &mut [u8],
     tags: Tags,
     image: &[u8],
-    pairs: [StringPair; 32],
-    n: usize,
+    pairs: &[StringPair],
     buf: &[u8],
     at: Layout,
 )
-    requires { (n ≤ 32) × ((LayoutIs (text_in buf.now pairs) n (length image.now) at) × (at.size ≤ length out.old)) }
-    ensures { out.new ≡ overwrite out.old 0 (written (given tags image.now (listed pairs n) buf.now)) }
+    requires { (bad_pairs buf.now pairs.now ≡ false) × LayoutIs pairs.now (length image.now) at × (at.size ≤ length out.old) }
+    ensures { out.new ≡ overwrite out.old 0 (written (given tags image.now pairs.now buf.now)) }
 {
-    write_head(out, tags, n, at.image, image.len(), at.size);
-    write_strings(out, buf, pairs, 2 * n, at.strings);
+    write_head(out, tags, pairs.len(), image.len(), at);
+    write_strings(out, buf, pairs, at.strings);
     write_image(out, image, at);
 }
 
-// 16 of the first n pairs of a list that starts with these 32.
-fn bad_pairs(buf: &[u8], pairs: [StringPair; 32], n: usize) -> bool
-    ensures { result ≡ bad_pairs buf.now (listed pairs n) }
-{
-    if 32 < n {
-        return true;
-    }
-    let mut i = 0;
-    while i < n {
-        let pair = pairs[i];
-        if bad_pair(buf, pair) {
-            return true;
-        }
-        i += 1;
-    }
-    offload_binary_parts::bad_keys(buf, pairs, n)
-}
-
-fn refused(number: usize) -> Written
-    ensures { result ≡ record { number = number; place = 0; len = 0 } }
-{
-    Written {
-        number,
-        place: 0,
-        len: 0,
-    }
-}
-
-// Writes a binary with these kinds and flags, this image, and n string pairs that name parts of `buf`, from an array of them. More than 32 are refused by 16.
-pub fn write_array(
+// Writes a binary with these kinds and flags, this image, and string pairs that name parts of `buf`, and returns its length. More than 32 pairs are refused
+// by 16.
+pub fn write_binary(
     tags: Tags,
     image: &[u8],
-    pairs: [StringPair; 32],
-    n: usize,
+    pairs: &[StringPair],
     buf: &[u8],
     out: &mut [u8],
-) -> Written
-    ensures { (result ≡ (write tags image.now (listed pairs n) buf.now out.old).answer) × (out.new ≡ (write tags image.now (listed pairs n) buf.now out.old).out) }
+) -> Result<usize, Refusal>
+    ensures { (written_of result ≡ (write tags image.now pairs.now buf.now out.old).answer) × (out.new ≡ (write tags image.now pairs.now buf.now out.old).out) }
 {
     if offload_binary_parts::bad_kinds(tags.image_kind, tags.offload_kind) {
-        return refused(15);
+        return Err(Reason::Kind.at(0));
     }
-    if bad_pairs(buf, pairs, n) {
-        return refused(16);
+    if bad_pairs(buf, pairs) {
+        return Err(Reason::Strings.at(0));
     }
-    if 1073741824 < image.len() {
-        return refused(11);
+    if LIMIT < image.len() {
+        return Err(Reason::Big.at(0));
     }
-    let at = places(buf, pairs, n, image.len());
-    if 1073741824 < at.size {
-        return refused(11);
+    let at = places(pairs, image.len());
+    if LIMIT < at.size {
+        return Err(Reason::Big.at(0));
     }
     if out.len() < at.size {
-        return refused(12);
+        return Err(Reason::Room.at(0));
     }
-    write_parts(out, tags, image, pairs, n, buf, at);
-    Written {
-        number: 0,
-        place: 0,
-        len: at.size,
-    }
+    write_parts(out, tags, image, pairs, buf, at);
+    Ok(at.size)
 }

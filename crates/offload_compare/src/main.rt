@@ -24,6 +24,7 @@ fn read_full<R: Read>(file: &mut R, bytes: &mut [u8]) -> usize
     ensures bound { result ≤ length bytes.new }
     ensures given { Consumes (R.remaining file.old) (R.remaining file.new) (take result bytes.new) }
 {
+    // By hand: at a short file `read_exact` does not say how much it read, and `read_to_end` takes heap.
     let mut got = 0;
     while got < bytes.len() {
         match file.read(&mut bytes[got..]) {
@@ -43,6 +44,7 @@ fn ended<R: Read>(file: &mut R) -> bool
 }
 
 // The bytes of an open file, as far as there is room for them; none where it cannot be read to its end.
+// No bytes stand for no file, since a file that cannot be read counts as empty: an Option would be made 0 at once.
 fn read_open<R: Read>(file: &mut R, bytes: &mut [u8; ROOM]) -> usize
     ensures bound { result ≤ length bytes.new }
     ensures front { IfSome (R.remaining file.old) (λ xs. take result bytes.new ≡ take result xs) }
@@ -58,6 +60,7 @@ fn read_open<R: Read>(file: &mut R, bytes: &mut [u8; ROOM]) -> usize
 }
 
 // The bytes of the file that argument i names; none where there is no such argument, or the file cannot be read.
+// No heap: the bytes fill the front of a lent array, and the length says how far.
 fn read_file(rt: &HostRuntime, i: usize, bytes: &mut [u8; ROOM]) -> usize
     ensures { result ≤ length bytes.new }
 {

@@ -1,15 +1,16 @@
 -- The profile's form of a canonical form for one of our cards. Assumes nothing.
-use Prim.Native.Nat.{ℕ, ◌+◌, ◌*◌, ◌-◌, ◌<◌, ◌≤◌}
+use Prim.Native.Nat.{ℕ, ◌-◌, ◌<◌}
 use native.Mathlib.Omega.{arith}
+use Rattle.std.proofs.Common.{Option, None}
 use mathlib.Core.Path.{◌≡◌, refl, sym, ap, ap₂, ◌∙◌, subst}
 use mathlib.Core.Bool.{Bool, true, false, not, ◌&&◌, cond}
 use mathlib.Core.List.{List, [], ◌∷◌, map}
-use lib.Dec.{T, eqb, leb, leb→le}
-use lib.ListN.{length, get_or, take, drop}
+use lib.Dec.{T, leb, leb→le}
+use lib.ListN.{length, take, drop}
 use Rattle.wire.specs.Lists.{any, every}
 use Rattle.wire.specs.Bytes.{bytes, empty, same}
 use Rattle.wire.specs.First.{first}
-use Rattle.wire.proofs.FirstLaws.{first_at, first_le}
+use Rattle.wire.proofs.FirstLaws.{first_at}
 use Rattle.wire.proofs.ByteLaws.{same_true}
 use Rattle.wire.proofs.Bools.{and_l, and_r, and_t, is_true, not_t, of_true, bool_ext, and_false}
 use Rattle.entry_id.specs.Meaning.{Feature, Meaning, feature, meaning, piece, canonical_of, shaped, proper, valid}
@@ -18,11 +19,11 @@ use Rattle.entry_id.specs.Scan.{part, pieces_at}
 use Rattle.entry_id.specs.Profile.{our_kinds, ours, primary_of, supported, supports, known, with_processor, with_primary, profile_meaning, profile_proper, profile_valid, profile_canon}
 use Rattle.entry_id.proofs.ReadBack.{Proper, parts, shaped-bytes, proper-meaning, canon_is, feature-piece}
 use Rattle.entry_id.proofs.ProfileLaws.{other_processor, profile_refused}
-use Rattle.profile_form.specs.Table.{table, name_at, primary_at, sramecc_at, xnack_at}
+use Rattle.profile_form.specs.Table.{table, row_at, name_at, primary_at, marks_at}
+use Rattle.profile_form.specs.declared.table.Row.{Row}
 use Rattle.profile_form.specs.Parts.{renamed, OursAt, Renameable, Written}
 use Rattle.canonical_form.specs.declared.Form.{Form}
-use Rattle.canonical_form.specs.Made.{form_of}
-use Rattle.profile_form.proofs.WriteLaws.{room_yes, room_nil, written_none}
+use Rattle.profile_form.proofs.WriteLaws.{card, room_yes, room_nil, written_none}
 use Rattle.profile_form.proofs.TableLaws.{primary_is, known_is, primary_some, primary_shaped, primary_short, primary_below, unknown_primary, unknown_is}
 
 pieces_supported : (q : Feature → Bool) (fs : List Feature) → every (λ p. q (feature p)) (map piece fs) ≡ every q fs
@@ -30,12 +31,17 @@ unfolding every
 pieces_supported q [] = refl
 pieces_supported q (f ∷ fs) = ap₂ ◌&&◌ (ap q (feature-piece f)) (pieces_supported q fs)
 
+some_long : (l : List ℕ) → T (not (empty l)) → 0 < length l
+unfolding empty
+some_long [] t = elim t [ ]
+some_long (b ∷ l) t = omega arith
+
 limited : (a k : Bool) (c : List ℕ) → cond (a && k) c [] ≡ cond k (cond a c []) []
 limited true k c = refl
 limited false true c = refl
 limited false false c = refl
 
-module _ (x : List ℕ) (kind at stop : ℕ) (o : OursAt x kind at stop) where
+module _ (x : List ℕ) (kind at stop : ℕ) (o : OursAt x (card kind at stop)) where
   abbrev m : Meaning
   m = meaning x
 
@@ -91,13 +97,13 @@ module _ (x : List ℕ) (kind at stop : ℕ) (o : OursAt x kind at stop) where
         (λ t. (parts (with_processor m p) t).fits)
         (λ t. other_processor (with_processor m p) m.processor good some (primary_shaped k below) (leb→le _ _ t))
 
-    marked_is : known (with_processor m p) ≡ every (λ q. supported (sramecc_at k) (xnack_at k) (feature q)) (pieces_at x stop)
+    marked_is : known (with_processor m p) ≡ every (λ q. supported (marks_at k).sramecc (marks_at k).xnack (feature q)) (pieces_at x stop)
     unfolding known p
-    marked_is = known_is k below m.features ∙ sym (ap (every (λ q. supported (sramecc_at k) (xnack_at k) (feature q))) o.pieces ∙ pieces_supported (supported (sramecc_at k) (xnack_at k)) m.features)
+    marked_is = known_is k below m.features ∙ sym (ap (every (λ q. supported (marks_at k).sramecc (marks_at k).xnack (feature q))) o.pieces ∙ pieces_supported (supported (marks_at k).sramecc (marks_at k).xnack) m.features)
 
-    known-form : profile_canon x ≡ cond (every (λ q. supported (sramecc_at k) (xnack_at k) (feature q)) (pieces_at x stop)) (in_room 256 (renamed x at stop (name_at (primary_at k)))) []
+    known-form : profile_canon x ≡ cond (every (λ q. supported (marks_at k).sramecc (marks_at k).xnack (feature q)) (pieces_at x stop)) (in_room 256 (renamed x at stop (name_at (primary_at k)))) []
     unfolding profile_canon profile_valid profile_proper in_room p
-    known-form = rw (is_shaped, meaning_is, proper_is, ours_still, marked_is, o.form p) (limited (leb (length (renamed x at stop p)) 256) (every (λ q. supported (sramecc_at k) (xnack_at k) (feature q)) (pieces_at x stop)) (renamed x at stop p))
+    known-form = rw (is_shaped, meaning_is, proper_is, ours_still, marked_is, o.form p) (limited (leb (length (renamed x at stop p)) 256) (every (λ q. supported (marks_at k).sramecc (marks_at k).xnack (feature q)) (pieces_at x stop)) (renamed x at stop p))
 
     -- a primary stays as it is
     own-form : primary_at k ≡ k → in_room 256 (renamed x at stop (name_at (primary_at k))) ≡ x
@@ -110,43 +116,43 @@ module _ (x : List ℕ) (kind at stop : ℕ) (o : OursAt x kind at stop) where
 
 -- ---- what `ours` finds in the table t, row k
 
-module _ (t x : List ℕ) (kind at stop k : ℕ) (same-table : t ≡ table) (o : OursAt x kind at stop) (e : k ≡ first 68 (λ j. same (name_at j) (take (stop - at) (drop at x)))) where
+module _ (t : List Row) (x : List ℕ) (kind at stop k : ℕ) (same-table : t ≡ table) (o : OursAt x (card kind at stop)) (e : first 68 (λ j. same (name_at j) (take (stop - at) (drop at x))) ≡ k) where
   row-found : first 68 (λ j. same (name_at j) (part x at stop)) ≡ k
   unfolding part
-  row-found = sym e
+  row-found = e
 
-  none : (out : List ℕ) (r : Form) → profile_canon x ≡ [] → r ≡ form_of [] → Written (profile_canon x) out out r
-  none out r z f = written_none (profile_canon x) out r (ap (in_room (length out)) z ∙ room_nil (length out)) f
+  none : (out : List ℕ) → profile_canon x ≡ [] → Written (profile_canon x) out out None
+  none out z = written_none (profile_canon x) out (ap (in_room (length out)) z ∙ room_nil (length out))
 
-  pub no_row : (out : List ℕ) (r : Form) → 68 ≤ k → r ≡ form_of [] → Written (profile_canon x) out out r
-  no_row out r h f = none out r (unknown_form x kind at stop o (omega (arith, row-found, first_le 68 (λ j. same (name_at j) (part x at stop))))) f
+  pub no_row : (out : List ℕ) → k ≡ 68 → Written (profile_canon x) out out None
+  no_row out h = none out (unknown_form x kind at stop o (row-found ∙ h))
 
   module _ (below : k < 68) where
-    primary_here : get_or t (k * 20 + 17) 0 ≡ primary_at k
+    primary_here : (row_at t k).primary ≡ primary_at k
     unfolding primary_at
-    primary_here = ap (λ l. get_or l (k * 20 + 17) 0) same-table
+    primary_here = ap (λ l. (row_at l k).primary) same-table
 
-    pub primary_in_lem : get_or t (k * 20 + 17) 0 < 68
+    pub primary_in_lem : (row_at t k).primary < 68
     primary_in_lem = omega (arith, primary_here, primary_below k below)
 
-    marks_here : every (λ q. supported (eqb (get_or t (k * 20 + 18) 0) 49) (eqb (get_or t (k * 20 + 19) 0) 49) (feature q)) (pieces_at x stop) ≡ every (λ q. supported (sramecc_at k) (xnack_at k) (feature q)) (pieces_at x stop)
-    unfolding sramecc_at xnack_at
-    marks_here = ap (λ l. every (λ q. supported (eqb (get_or l (k * 20 + 18) 0) 49) (eqb (get_or l (k * 20 + 19) 0) 49) (feature q)) (pieces_at x stop)) same-table
+    marks_here : every (λ q. supported (row_at t k).marks.sramecc (row_at t k).marks.xnack (feature q)) (pieces_at x stop) ≡ every (λ q. supported (marks_at k).sramecc (marks_at k).xnack (feature q)) (pieces_at x stop)
+    unfolding marks_at
+    marks_here = ap (λ l. every (λ q. supported (row_at l k).marks.sramecc (row_at l k).marks.xnack (feature q)) (pieces_at x stop)) same-table
 
-    module _ (v : Bool) (a : v ≡ every (λ q. supported (eqb (get_or t (k * 20 + 18) 0) 49) (eqb (get_or t (k * 20 + 19) 0) 49) (feature q)) (pieces_at x stop)) where
+    module _ (v : Bool) (a : v ≡ every (λ q. supported (row_at t k).marks.sramecc (row_at t k).marks.xnack (feature q)) (pieces_at x stop)) where
       form_here : (b : Bool) → v ≡ b → profile_canon x ≡ cond b (in_room 256 (renamed x at stop (name_at (primary_at k)))) []
       form_here b f = known-form x kind at stop o k below row-found ∙ ap (λ c. cond c (in_room 256 (renamed x at stop (name_at (primary_at k)))) []) (sym marks_here ∙ sym a ∙ f)
 
-      pub not-supported : (out : List ℕ) (r : Form) → v ≡ false → r ≡ form_of [] → Written (profile_canon x) out out r
-      not-supported out r f = none out r (form_here false f)
+      pub not-supported : (out : List ℕ) → v ≡ false → Written (profile_canon x) out out None
+      not-supported out f = none out (form_here false f)
 
-      pub with_primary_lem : (p out after : List ℕ) (r : Form) → v ≡ true → p ≡ name_at (get_or t (k * 20 + 17) 0) → Written (in_room 256 (renamed x at stop p)) out after r → Written (profile_canon x) out after r
+      pub with_primary_lem : (p out after : List ℕ) (r : Option Form) → v ≡ true → p ≡ name_at ((row_at t k).primary) → Written (in_room 256 (renamed x at stop p)) out after r → Written (profile_canon x) out after r
       with_primary_lem p out after r f n w = subst (λ c. Written c out after r) (ap (λ q. in_room 256 (renamed x at stop q)) (n ∙ ap name_at primary_here) ∙ sym (form_here true f)) w
 
-    pub own_primary : (v : Bool) → v ≡ every (λ q. supported (eqb (get_or t (k * 20 + 18) 0) 49) (eqb (get_or t (k * 20 + 19) 0) 49) (feature q)) (pieces_at x stop) → (out after : List ℕ) (r : Form) → v ≡ true → get_or t (k * 20 + 17) 0 ≡ k → Written x out after r → Written (profile_canon x) out after r
+    pub own_primary : (v : Bool) → v ≡ every (λ q. supported (row_at t k).marks.sramecc (row_at t k).marks.xnack (feature q)) (pieces_at x stop) → (out after : List ℕ) (r : Option Form) → v ≡ true → (row_at t k).primary ≡ k → Written x out after r → Written (profile_canon x) out after r
     own_primary v a out after r f e w = subst (λ c. Written c out after r) (sym (form_here v a true f ∙ own-form x kind at stop o k below row-found (sym primary_here ∙ e))) w
 
-    pub rename_fits : (p : List ℕ) → p ≡ name_at (get_or t (k * 20 + 17) 0) → Renameable x kind at stop p
+    pub rename_fits : (p : List ℕ) → p ≡ name_at ((row_at t k).primary) → Renameable x (card kind at stop) p
     unfolding valid shaped
     rename_fits p n =
         let q : p ≡ name_at (primary_at k) = n ∙ ap name_at primary_here in
@@ -158,5 +164,6 @@ module _ (t x : List ℕ) (kind at stop k : ℕ) (same-table : t ≡ table) (o :
           high = o.high;
           whole = leb→le (length x) 256 l;
           short = rw q (primary_short k below);
+          some = rw q (some_long (name_at (primary_at k)) (primary_some k below));
           key = o.key p (rw q (shaped-bytes (name_at (primary_at k)) (primary_shaped k below)));
         }

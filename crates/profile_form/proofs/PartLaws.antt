@@ -28,6 +28,7 @@ use Rattle.entry_id.proofs.RuleLaws.{named-valid, id_rules-reads}
 use Rattle.canonical_form.specs.Made.{compared_length}
 use Rattle.canonical_form.proofs.KeyLaws.{compared-length}
 use Rattle.profile_form.specs.Parts.{behind, begins, past_arch, renamed, OursAt}
+use Rattle.profile_form.proofs.WriteLaws.{card}
 
 -- ---- fields
 
@@ -277,7 +278,7 @@ module _ (x : List ℕ) (again : canon x ≡ x) (some : empty x ≡ false) where
           let a : head_of (after_kind (canonical_of q)) ≡ drop kind (front m ++ p) = sym (after_head q plain_other) ∙ ap after_kind h ∙ ap (λ z. drop (length z) (front m ++ p)) kind_here ∙ ap (λ n. drop n (front m ++ p)) (sym e) in
           ap₂ (λ u v. (head_number u + v) % 2 ^ 64) a (ap (λ z. length (compared_kind z)) k ∙ compared-length m.kind good.kind_in ∙ ap compared_length (sym e))
 
-    ours_at : (kind : ℕ) → kind ≡ past_arch x - 8 → (stop ≡ at → ⊥) → OursAt x kind at stop
+    ours_at : (kind : ℕ) → kind ≡ past_arch x - 8 → (stop ≡ at → ⊥) → OursAt x (card kind at stop)
     unfolding renamed
     ours_at kind k z =
         let e : kind ≡ length m.kind = omega (arith, found.2) in
@@ -338,5 +339,5 @@ module _ (x : List ℕ) (again : canon x ≡ x) (arch vendor system at stop : �
   pub keeps_none : stop ≡ at → profile_canon x ≡ x
   keeps_none = no_processor x again text_some (λ e. n (a ∙ e)) at stop low dashes c
 
-  pub finds_ours : (stop ≡ at → ⊥) → OursAt x (arch - 8) at stop
+  pub finds_ours : (stop ≡ at → ⊥) → OursAt x (card (arch - 8) at stop)
   finds_ours = ours_at x again text_some (λ e. n (a ∙ e)) at stop low dashes c (arch - 8) (ap (λ k. k - 8) a)

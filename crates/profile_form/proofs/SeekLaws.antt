@@ -1,17 +1,17 @@
 -- What a scan for a byte finds: what follows a '-', and pieces. Assumes nothing.
 use Prim.Native.Nat.{ℕ, ◌+◌, ◌≤◌, ◌<◌}
-use native.Mathlib.Omega.{arith}
 use native.Mathlib.Numerals.{add-one}
-use mathlib.Core.Path.{◌≡◌, sym, ◌∙◌}
-use mathlib.Core.Bool.{Bool, true, false, ◌&&◌}
-use mathlib.Core.List.{List}
-use lib.Dec.{ltb}
-use lib.ListN.{length, drop, drop_of_length-le}
-use lib.Seq.{take_all}
-use borrow.Author.Tests.{lt-ltb, le-ltb, ltb-true, ltb-false}
+use mathlib.Core.Path.{◌≡◌, refl, sym, ap₂, ◌∙◌}
+use mathlib.Core.Bool.{Bool, true, ◌&&◌}
+use mathlib.Core.List.{List, [], ◌∷◌}
+use lib.Dec.{eqb}
+use lib.ListN.{length, take, drop, drop_of_length-le}
+use borrow.Author.Tests.{lt-ltb, le-ltb}
 use Rattle.wire.specs.Lists.{every}
-use Rattle.wire.proofs.Bools.{by_bool, clash}
-use Rattle.wire.proofs.ByteLaws.{same_length}
+use Rattle.std.specs.List.{starts_with}
+use lib.Pointwise.{pointwise}
+use Rattle.wire.specs.Bytes.{same}
+use Rattle.wire.proofs.Bools.{eqb_sym}
 use Rattle.entry_id.specs.Text.{join_with, other_than, not_colon}
 use Rattle.entry_id.specs.Scan.{part, Run, pieces_at}
 use Rattle.entry_id.proofs.TextLaws.{join_split}
@@ -31,12 +31,16 @@ module _ (x : List ℕ) (from r : ℕ) (h : Run (other_than 45) x from r) where
 
 -- ---- beginnings
 
-pub short-begins : (x p : List ℕ) → length x < length p → begins p x ≡ false
-unfolding begins
-short-begins x p h = rw (take_all (length p) x (omega arith)) (same_length x p (λ e. omega arith))
+pointwise_same : (p y : List ℕ) → pointwise eqb p y ≡ same y p
+unfolding same
+pointwise_same [] [] = refl
+pointwise_same [] (b ∷ y) = refl
+pointwise_same (a ∷ p) [] = refl
+pointwise_same (a ∷ p) (b ∷ y) = ap₂ ◌&&◌ (eqb_sym a b) (pointwise_same p y)
 
-pub begins-long : (x p : List ℕ) → begins p x ≡ true → length p ≤ length x
-begins-long x p e = by_bool (ltb (length x) (length p)) (λ t. clash (begins p x) e (short-begins x p (ltb-true (length x) (length p) t))) (λ f. ltb-false (length x) (length p) f)
+pub starts_same : (x p : List ℕ) (r : Bool) → r ≡ starts_with eqb x p → r ≡ begins p x
+unfolding begins
+starts_same x p r e = e ∙ pointwise_same p (take (length p) x)
 
 -- ---- pieces
 

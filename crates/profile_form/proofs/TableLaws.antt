@@ -1,5 +1,5 @@
 -- The code's table, by tests that are computed over it whole. Assumes nothing.
-use Prim.Native.Nat.{ℕ, zero, suc, ◌+◌, ◌*◌, ◌%◌, ◌<◌, ◌≤◌}
+use Prim.Native.Nat.{ℕ, zero, suc, ◌%◌, ◌<◌, ◌≤◌}
 use native.Mathlib.Omega.{arith}
 use native.Mathlib.Nat.{mod-lt}
 use mathlib.Core.Path.{◌≡◌, refl, sym, ap, ap₂, ◌∙◌}
@@ -20,15 +20,15 @@ use Rattle.entry_id.specs.Processors.{Processor, processors, names, stands, all_
 use Rattle.entry_id.specs.Profile.{primary_of, supported, supports}
 use Rattle.entry_id.proofs.FeatureLaws.{beq_eq}
 use Rattle.entry_id.proofs.NameLaws.{any-names}
-use Rattle.profile_form.specs.Table.{mark, row_for, rows_for, rows_from, table, name_at, primary_at, sramecc_at, xnack_at, slot_of, placed, slots}
+use Rattle.profile_form.specs.Table.{row_for, rows_for, rows_from, table, row_at, name_at, primary_at, marks_at, slot_of, placed, slots}
 
 -- the names are those of the processors, in their order
 names_are : tab 68 name_at ≡ all_names processors
-unfolding tab name_at table rows_from rows_for row_for mark processors names all_names
+unfolding tab name_at table rows_from rows_for row_for processors names all_names
 names_are = refl
 
-pub table-length : length table ≡ 1360
-unfolding table rows_from rows_for row_for mark processors names
+pub table-length : length table ≡ 68
+unfolding table rows_from rows_for row_for processors names
 table-length = refl
 
 -- ---- row by row
@@ -46,12 +46,12 @@ marked p s x r = not (stands p r) || (beq r.sramecc s && beq r.xnack x)
 right_row : ℕ → Bool
 right_row k =
     let p = name_at (primary_at k) in
-    leb (get_or table (k * 20 + 16) 0) 16 && ltb (primary_at k) 68 && same (primary_of (name_at k)) p
-    && every (marked p (sramecc_at k) (xnack_at k)) processors && any (stands p) processors
+    eqb (length (row_at table k).name) 16 && leb (row_at table k).length 16 && ltb (primary_at k) 68 && same (primary_of (name_at k)) p
+    && every (marked p (marks_at k).sramecc (marks_at k).xnack) processors && any (stands p) processors
     && not (empty p) && processor_shaped p && leb (length p) 16
 
 all_right : T (every right_row (tab 68 (λ k. k)))
-unfolding right_row every any tab same empty field_byte name_byte processor_byte processor_shaped name_at primary_at sramecc_at xnack_at table rows_from rows_for row_for mark processors names stands primary_in primary_of
+unfolding right_row every any tab same empty field_byte name_byte processor_byte processor_shaped name_at primary_at marks_at table rows_from rows_for row_for processors names stands primary_in primary_of
 all_right = tt
 
 absorb : (b a : Bool) → (b || (a && b)) ≡ b
@@ -84,9 +84,13 @@ module _ (k : ℕ) (h : k < 68) where
   right : T (right_row k)
   right = every_tab right_row 68 (λ i. i) k all_right h
 
-  pub size_small : get_or table (k * 20 + 16) 0 ≤ 16
+  pub name_long : length (row_at table k).name ≡ 16
   unfolding right_row
-  size_small = let t = right in let u : T (leb (get_or table (k * 20 + 16) 0) 16) = search (and_l, and_r) depth 12 in leb→le _ _ u
+  name_long = let t = right in let u : T (eqb (length (row_at table k).name) 16) = search (and_l, and_r) depth 12 in eqb→eq _ _ u
+
+  pub size_small : (row_at table k).length ≤ 16
+  unfolding right_row
+  size_small = let t = right in let u : T (leb (row_at table k).length 16) = search (and_l, and_r) depth 12 in leb→le _ _ u
 
   pub primary_below : primary_at k < 68
   unfolding right_row
@@ -97,13 +101,13 @@ module _ (k : ℕ) (h : k < 68) where
   unfolding right_row
   primary_is = let t = right in let u : T (same (primary_of (name_at k)) (name_at (primary_at k))) = search (and_l, and_r) depth 12 in same_eq _ _ u
 
-  pub known_is : (fs : List Feature) → any (λ r. stands (name_at (primary_at k)) r && every (supports r) fs) processors ≡ every (supported (sramecc_at k) (xnack_at k)) fs
+  pub known_is : (fs : List Feature) → any (λ r. stands (name_at (primary_at k)) r && every (supports r) fs) processors ≡ every (supported (marks_at k).sramecc (marks_at k).xnack) fs
   unfolding right_row
   known_is fs =
       let t = right in
-      let m : T (every (marked (name_at (primary_at k)) (sramecc_at k) (xnack_at k)) processors) = search (and_l, and_r) depth 12 in
+      let m : T (every (marked (name_at (primary_at k)) (marks_at k).sramecc (marks_at k).xnack) processors) = search (and_l, and_r) depth 12 in
       let a : T (any (stands (name_at (primary_at k))) processors) = search (and_l, and_r) depth 12 in
-      any_marked (name_at (primary_at k)) (sramecc_at k) (xnack_at k) fs processors m ∙ ap (λ b. b && every (supported (sramecc_at k) (xnack_at k)) fs) (is_true (any (stands (name_at (primary_at k))) processors) a)
+      any_marked (name_at (primary_at k)) (marks_at k).sramecc (marks_at k).xnack fs processors m ∙ ap (λ b. b && every (supported (marks_at k).sramecc (marks_at k).xnack) fs) (is_true (any (stands (name_at (primary_at k))) processors) a)
 
   pub primary_some : T (not (empty (name_at (primary_at k))))
   unfolding right_row
@@ -123,11 +127,11 @@ right_slot : ℕ → Bool
 right_slot k = eqb (get_or slots (slot_of (name_at k)) 0) k
 
 all_slots : T (every right_slot (tab 68 (λ k. k)))
-unfolding right_slot every tab slots placed slot_of head_number word word_of name_at table rows_from rows_for row_for mark processors names
+unfolding right_slot every tab slots placed slot_of head_number word word_of name_at table rows_from rows_for row_for processors names
 all_slots = tt
 
 rows_below : T (every (λ k. ltb k 68) slots)
-unfolding every slots placed tab slot_of head_number word word_of name_at table rows_from rows_for row_for mark processors names
+unfolding every slots placed tab slot_of head_number word word_of name_at table rows_from rows_for row_for processors names
 rows_below = tt
 
 every_at : (p : ℕ → Bool) (l : List ℕ) (i d : ℕ) → T (every p l) → T (p d) → T (p (get_or l i d))

@@ -1,6 +1,7 @@
 -- Forms written to the start of a buffer. Assumes nothing.
 use Prim.Native.Nat.{ℕ, ◌+◌, ◌-◌, ◌%◌, ◌^◌, ◌≤◌, ◌<◌}
 use native.Mathlib.Omega.{arith}
+use Rattle.std.proofs.Common.{Option, Some, None}
 use mathlib.Core.Path.{◌≡◌, refl, sym, ap, ap₂, ◌∙◌, subst}
 use mathlib.Core.List.{List, [], ◌++◌, append_assoc}
 use lib.ListN.{length, take, drop, length-append, length-drop}
@@ -11,7 +12,12 @@ use Rattle.wire.proofs.OverwriteLaws.{overwrite_in, overwrite_then}
 use Rattle.entry_id.specs.Canonical.{head_key, head_number, in_room}
 use Rattle.canonical_form.specs.declared.Form.{Form}
 use Rattle.canonical_form.specs.Made.{compared_length, form_of}
+use Rattle.canonical_form.proofs.MadeLaws.{form_some, no_form}
 use Rattle.profile_form.specs.Parts.{renamed, Renameable, Written}
+use Rattle.profile_form.specs.declared.parts.Card.{Card}
+
+abbrev pub card : ℕ → ℕ → ℕ → Card
+card kind at stop = record { kind = kind; at = at; stop = stop }
 
 pub room_no : (room : ℕ) (c : List ℕ) → room < length c → in_room room c ≡ []
 unfolding in_room
@@ -25,22 +31,17 @@ pub room_nil : (room : ℕ) → in_room room [] ≡ []
 room_nil room = room_yes room [] (omega arith)
 
 -- nothing is written
-pub written_none : (c before : List ℕ) (r : Form) → in_room (length before) c ≡ [] → r ≡ form_of [] → Written c before before r
-unfolding form_of
-written_none c before r e f = record {
-  form_is = f ∙ ap form_of (sym e);
-  text = sym (ap₂ (λ l (q : Form). l ++ drop q.length before) e f);
-}
+pub written_none : (c before : List ℕ) → in_room (length before) c ≡ [] → Written c before before None
+written_none c before e = let w = no_form (in_room (length before) c) before e in record { form_is = w.0; text = w.1 }
 
 -- all of it is written
-pub written_all : (c before after : List ℕ) (r : Form) → length c ≤ length before → r ≡ form_of c → after ≡ overwrite before 0 c → Written c before after r
-unfolding form_of
+pub written_all : (c before after : List ℕ) (r : Option Form) → length c ≤ length before → r ≡ form_of c → after ≡ overwrite before 0 c → Written c before after r
 written_all c before after r h f t =
     let e = room_yes (length before) c h in
     let z : 0 + length c ≡ length c = omega arith in
     record {
       form_is = f ∙ ap form_of (sym e);
-      text = t ∙ overwrite_in before 0 c (omega arith) ∙ ap (λ k. c ++ drop k before) z ∙ sym (ap₂ (λ l (q : Form). l ++ drop q.length before) e f);
+      text = t ∙ overwrite_in before 0 c (omega arith) ∙ ap (λ k. c ++ drop k before) z ∙ sym (ap (λ l. l ++ drop (length l) before) e);
     }
 
 -- ---- the text with another name
@@ -75,23 +76,23 @@ module _ (x : List ℕ) (at stop : ℕ) (p : List ℕ) (low : at ≤ stop) (high
 
   -- what is told of it
   pub renamed-form : (kind n key : ℕ) → head_key (renamed x at stop p) ≡ (head_number (drop kind (take at x ++ p)) + compared_length kind) % 2 ^ 64
-      → n ≡ at + length p + (length x - stop) → key ≡ (head_number (drop kind (take at x ++ p)) + compared_length kind) % 2 ^ 64 → record { length = n; key = key } ≡ form_of (renamed x at stop p)
-  unfolding form_of
-  renamed-form kind n key h e k = let a = e ∙ sym renamed-long in let b = k ∙ sym h in λ i. record { length = a i; key = b i }
+      → 0 < length p → n ≡ at + length p + (length x - stop) → key ≡ (head_number (drop kind (take at x ++ p)) + compared_length kind) % 2 ^ 64
+      → Some (record { length = n; key = key }) ≡ form_of (renamed x at stop p)
+  renamed-form kind n key h s e k = form_some (renamed x at stop p) n key (omega (arith, renamed-long)) (e ∙ sym renamed-long) (k ∙ sym h)
 
 -- a form above 256 bytes, one that does not fit, one that does
-module _ (c before : List ℕ) (r : Form) where
-  pub limit-none : 256 < length c → r ≡ form_of [] → Written (in_room 256 c) before before r
-  limit-none h f = written_none (in_room 256 c) before r (ap (in_room (length before)) (room_no 256 c h) ∙ room_nil (length before)) f
+module _ (c before : List ℕ) where
+  pub limit-none : 256 < length c → Written (in_room 256 c) before before None
+  limit-none h = written_none (in_room 256 c) before (ap (in_room (length before)) (room_no 256 c h) ∙ room_nil (length before))
 
-  pub limit-short : length c ≤ 256 → length before < length c → r ≡ form_of [] → Written (in_room 256 c) before before r
-  limit-short h l f = written_none (in_room 256 c) before r (ap (in_room (length before)) (room_yes 256 c h) ∙ room_no (length before) c l) f
+  pub limit-short : length c ≤ 256 → length before < length c → Written (in_room 256 c) before before None
+  limit-short h l = written_none (in_room 256 c) before (ap (in_room (length before)) (room_yes 256 c h) ∙ room_no (length before) c l)
 
-  pub limit_all : (after : List ℕ) → length c ≤ 256 → length c ≤ length before → r ≡ form_of c → after ≡ overwrite before 0 c → Written (in_room 256 c) before after r
-  limit_all after h l f t = subst (λ z. Written z before after r) (sym (room_yes 256 c h)) (written_all c before after r l f t)
+  pub limit_all : (r : Option Form) (after : List ℕ) → length c ≤ 256 → length c ≤ length before → r ≡ form_of c → after ≡ overwrite before 0 c → Written (in_room 256 c) before after r
+  limit_all r after h l f t = subst (λ z. Written z before after r) (sym (room_yes 256 c h)) (written_all c before after r l f t)
 
 -- written in three parts, and its head read again
-module _ (x : List ℕ) (kind at stop : ℕ) (p : List ℕ) (u : Renameable x kind at stop p)
+module _ (x : List ℕ) (kind at stop : ℕ) (p : List ℕ) (u : Renameable x (card kind at stop) p)
     (out o₁ o₂ o₃ : List ℕ) (short : at + length p + (length x - stop) ≤ 256) (fits : at + length p + (length x - stop) ≤ length out)
     (w₁ : o₁ ≡ overwrite out 0 (take at x)) (w₂ : o₂ ≡ overwrite o₁ at p) (w₃ : o₃ ≡ overwrite o₂ (at + length p) (take (length x - stop) (drop stop x))) where
   rest_whole : take (length x - stop) (drop stop x) ≡ drop stop x
@@ -106,9 +107,9 @@ module _ (x : List ℕ) (kind at stop : ℕ) (p : List ℕ) (u : Renameable x ki
   head_here = ap (λ o. take (at + length p - kind) (drop kind o)) three ∙ head_taken x at stop p u.low u.high out fits kind u.first
 
   pub renamed-made : (key : ℕ) → key ≡ (head_number (take (at + length p - kind) (drop kind o₃)) + compared_length kind) % 2 ^ 64
-      → Written (in_room 256 (renamed x at stop p)) out o₃ (record { length = at + length p + (length x - stop); key = key })
+      → Written (in_room 256 (renamed x at stop p)) out o₃ (Some (record { length = at + length p + (length x - stop); key = key }))
   renamed-made key k =
       let l = renamed-long x at stop p u.low u.high in
-      limit_all (renamed x at stop p) out (record { length = at + length p + (length x - stop); key = key }) o₃ (omega (arith, l)) (omega (arith, l))
-      (renamed-form x at stop p u.low u.high kind _ key u.key refl (k ∙ ap (λ h. (head_number h + compared_length kind) % 2 ^ 64) head_here))
+      limit_all (renamed x at stop p) out (Some (record { length = at + length p + (length x - stop); key = key })) o₃ (omega (arith, l)) (omega (arith, l))
+      (renamed-form x at stop p u.low u.high kind _ key u.key u.some refl (k ∙ ap (λ h. (head_number h + compared_length kind) % 2 ^ 64) head_here))
       three

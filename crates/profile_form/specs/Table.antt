@@ -1,43 +1,46 @@
--- The table of processors as the code has it: a row of 20 bytes for each name. Definitions only.
-use Rattle.std.specs.Prelude.{ℕ, zero, suc, ◌+◌, ◌*◌, ◌%◌, Bool, cond, List, [], ◌∷◌, ◌++◌, eqb, length, get_or, take, drop, set}
-use Prim.Native.Char.{code}
+-- The table of processors as the code has it: a row for each name. Definitions only.
+use Rattle.std.specs.Prelude.{ℕ, zero, suc, ◌+◌, ◌%◌, false, List, [], ◌∷◌, ◌++◌, length, get_or, take, drop, set}
 use Rattle.wire.specs.Lists.{tab}
 use Rattle.wire.specs.Bytes.{bytes}
 use Rattle.entry_id.specs.Canonical.{head_number}
 use Rattle.entry_id.specs.Processors.{Processor, processors, names}
-
-unfoldable pub mark : Bool → ℕ
-mark b = cond b (code "1") (code "0")
+use Rattle.profile_form.specs.declared.table.Row.{Row}
+use Rattle.profile_form.specs.declared.table.Marks.{Marks}
 
 -- the row of a name of p: the name, with dots behind it, in 16 bytes, its length, the row k of its primary, the marks
-unfoldable pub row_for : ℕ → Processor → List ℕ → List ℕ
-row_for k p n = n ++ drop (length n) (bytes " . . . . . . . .") ++ length n ∷ k ∷ mark p.sramecc ∷ mark p.xnack ∷ []
+unfoldable pub row_for : ℕ → Processor → List ℕ → Row
+row_for k p n = record {
+  name = n ++ drop (length n) (bytes " . . . . . . . .");
+  length = length n;
+  primary = k;
+  marks = record { sramecc = p.sramecc; xnack = p.xnack };
+}
 
 -- one row after the other
-unfoldable pub rows_for : ℕ → Processor → List (List ℕ) → List ℕ
+unfoldable pub rows_for : ℕ → Processor → List (List ℕ) → List Row
 rows_for k p [] = []
-rows_for k p (n ∷ ns) = row_for k p n ++ rows_for k p ns
+rows_for k p (n ∷ ns) = row_for k p n ∷ rows_for k p ns
 
 -- from row k on: of each processor the primary first, then its alternative names
-unfoldable pub rows_from : ℕ → List Processor → List ℕ
+unfoldable pub rows_from : ℕ → List Processor → List Row
 rows_from k [] = []
 rows_from k (p ∷ ps) = rows_for k p (names p) ++ rows_from (k + length (names p)) ps
 
-unfoldable pub table : List ℕ
+unfoldable pub table : List Row
 table = rows_from 0 processors
 
--- what row k says
+-- row k, and what it says
+abbrev pub row_at : List Row → ℕ → Row
+row_at t k = get_or t k (record { name = []; length = 0; primary = 0; marks = record { sramecc = false; xnack = false } })
+
 unfoldable pub name_at : ℕ → List ℕ
-name_at k = take (get_or table (k * 20 + 16) 0) (drop (k * 20) table)
+name_at k = let r = row_at table k in take r.length r.name
 
 unfoldable pub primary_at : ℕ → ℕ
-primary_at k = get_or table (k * 20 + 17) 0
+primary_at k = (row_at table k).primary
 
-unfoldable pub sramecc_at : ℕ → Bool
-sramecc_at k = eqb (get_or table (k * 20 + 18) 0) (code "1")
-
-unfoldable pub xnack_at : ℕ → Bool
-xnack_at k = eqb (get_or table (k * 20 + 19) 0) (code "1")
+unfoldable pub marks_at : ℕ → Marks
+marks_at k = (row_at table k).marks
 
 -- ---- where the row of a name is
 

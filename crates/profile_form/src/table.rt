@@ -1,93 +1,111 @@
 // The processors of AMD's cards, copied from LLVM's AMDGPU user guide: a row for each name, and where the row of a name is.
-ghost use Rattle.std.specs.Prelude.{◌≡◌, ◌<◌};
+ghost use Rattle.std.specs.Prelude.{◌≡◌, ◌<◌, MatchOption};
 ghost use Rattle.wire.specs.Bytes.{same};
 ghost use Rattle.wire.specs.First.{first};
 ghost use Rattle.profile_form.specs.Table.{table, name_at, slot_of};
 
-// Rows of 20 bytes: a name in 16 bytes, its length, the row of its primary, and whether `sramecc` and `xnack` are supported.
-pub(crate) const ROWS: usize = 68;
+// Which features a processor supports.
+#[derive(Clone, Copy)]
+pub(crate) struct Marks {
+    pub sramecc: bool,
+    pub xnack: bool,
+}
 
-pub(crate) const ROW: usize = 20;
+// A name, with dots behind it, and its length; the row of its primary; and the marks.
+#[derive(Clone, Copy)]
+pub(crate) struct Row {
+    name: [u8; 16],
+    length: usize,
+    pub primary: usize,
+    pub marks: Marks,
+}
 
-const LENGTH: usize = 16;
+macro_rules! row {
+    ($name:literal, $length:literal, $primary:literal, $sramecc:literal, $xnack:literal) => {
+        Row {
+            name: *$name,
+            length: $length,
+            primary: $primary,
+            marks: Marks {
+                sramecc: $sramecc,
+                xnack: $xnack,
+            },
+        }
+    };
+}
 
-pub(crate) const PRIMARY: usize = 17;
+pub(crate) static PROCESSORS: [Row; 68] = [
+    row!(b"gfx600 . . . . .", 6, 0, false, false),
+    row!(b"tahiti . . . . .", 6, 0, false, false),
+    row!(b"gfx601 . . . . .", 6, 2, false, false),
+    row!(b"pitcairn . . . .", 8, 2, false, false),
+    row!(b"verde. . . . . .", 5, 2, false, false),
+    row!(b"gfx602 . . . . .", 6, 5, false, false),
+    row!(b"hainan . . . . .", 6, 5, false, false),
+    row!(b"oland. . . . . .", 5, 5, false, false),
+    row!(b"gfx700 . . . . .", 6, 8, false, false),
+    row!(b"kaveri . . . . .", 6, 8, false, false),
+    row!(b"gfx701 . . . . .", 6, 10, false, false),
+    row!(b"hawaii . . . . .", 6, 10, false, false),
+    row!(b"gfx702 . . . . .", 6, 12, false, false),
+    row!(b"gfx703 . . . . .", 6, 13, false, false),
+    row!(b"kabini . . . . .", 6, 13, false, false),
+    row!(b"mullins. . . . .", 7, 13, false, false),
+    row!(b"gfx704 . . . . .", 6, 16, false, false),
+    row!(b"bonaire. . . . .", 7, 16, false, false),
+    row!(b"gfx705 . . . . .", 6, 18, false, false),
+    row!(b"gfx801 . . . . .", 6, 19, false, true),
+    row!(b"carrizo. . . . .", 7, 19, false, true),
+    row!(b"gfx802 . . . . .", 6, 21, false, false),
+    row!(b"iceland. . . . .", 7, 21, false, false),
+    row!(b"tonga. . . . . .", 5, 21, false, false),
+    row!(b"gfx803 . . . . .", 6, 24, false, false),
+    row!(b"fiji . . . . . .", 4, 24, false, false),
+    row!(b"polaris10. . . .", 9, 24, false, false),
+    row!(b"polaris11. . . .", 9, 24, false, false),
+    row!(b"gfx805 . . . . .", 6, 28, false, false),
+    row!(b"tongapro . . . .", 8, 28, false, false),
+    row!(b"gfx810 . . . . .", 6, 30, false, true),
+    row!(b"stoney . . . . .", 6, 30, false, true),
+    row!(b"gfx900 . . . . .", 6, 32, false, true),
+    row!(b"gfx902 . . . . .", 6, 33, false, true),
+    row!(b"gfx904 . . . . .", 6, 34, false, true),
+    row!(b"gfx906 . . . . .", 6, 35, true, true),
+    row!(b"gfx908 . . . . .", 6, 36, true, true),
+    row!(b"gfx909 . . . . .", 6, 37, false, true),
+    row!(b"gfx90a . . . . .", 6, 38, true, true),
+    row!(b"gfx90c . . . . .", 6, 39, false, true),
+    row!(b"gfx940 . . . . .", 6, 40, true, true),
+    row!(b"gfx941 . . . . .", 6, 41, true, true),
+    row!(b"gfx942 . . . . .", 6, 42, true, true),
+    row!(b"gfx1010. . . . .", 7, 43, false, true),
+    row!(b"gfx1011. . . . .", 7, 44, false, true),
+    row!(b"gfx1012. . . . .", 7, 45, false, true),
+    row!(b"gfx1013. . . . .", 7, 46, false, true),
+    row!(b"gfx1030. . . . .", 7, 47, false, false),
+    row!(b"gfx1031. . . . .", 7, 48, false, false),
+    row!(b"gfx1032. . . . .", 7, 49, false, false),
+    row!(b"gfx1033. . . . .", 7, 50, false, false),
+    row!(b"gfx1034. . . . .", 7, 51, false, false),
+    row!(b"gfx1035. . . . .", 7, 52, false, false),
+    row!(b"gfx1036. . . . .", 7, 53, false, false),
+    row!(b"gfx1100. . . . .", 7, 54, false, false),
+    row!(b"gfx1101. . . . .", 7, 55, false, false),
+    row!(b"gfx1102. . . . .", 7, 56, false, false),
+    row!(b"gfx1103. . . . .", 7, 57, false, false),
+    row!(b"gfx1150. . . . .", 7, 58, false, false),
+    row!(b"gfx1151. . . . .", 7, 59, false, false),
+    row!(b"gfx1152. . . . .", 7, 60, false, false),
+    row!(b"gfx1200. . . . .", 7, 61, false, false),
+    row!(b"gfx1201. . . . .", 7, 62, false, false),
+    row!(b"gfx9-generic . .", 12, 63, false, true),
+    row!(b"gfx10-1-generic.", 15, 64, false, true),
+    row!(b"gfx10-3-generic.", 15, 65, false, false),
+    row!(b"gfx11-generic. .", 13, 66, false, false),
+    row!(b"gfx12-generic. .", 13, 67, false, false),
+];
 
-pub(crate) const SRAMECC: usize = 18;
-
-pub(crate) const XNACK: usize = 19;
-
-pub(crate) const PROCESSORS: [u8; 1360] = *b"\
-    gfx600 . . . . .\x06\x0000\
-    tahiti . . . . .\x06\x0000\
-    gfx601 . . . . .\x06\x0200\
-    pitcairn . . . .\x08\x0200\
-    verde. . . . . .\x05\x0200\
-    gfx602 . . . . .\x06\x0500\
-    hainan . . . . .\x06\x0500\
-    oland. . . . . .\x05\x0500\
-    gfx700 . . . . .\x06\x0800\
-    kaveri . . . . .\x06\x0800\
-    gfx701 . . . . .\x06\x0A00\
-    hawaii . . . . .\x06\x0A00\
-    gfx702 . . . . .\x06\x0C00\
-    gfx703 . . . . .\x06\x0D00\
-    kabini . . . . .\x06\x0D00\
-    mullins. . . . .\x07\x0D00\
-    gfx704 . . . . .\x06\x1000\
-    bonaire. . . . .\x07\x1000\
-    gfx705 . . . . .\x06\x1200\
-    gfx801 . . . . .\x06\x1301\
-    carrizo. . . . .\x07\x1301\
-    gfx802 . . . . .\x06\x1500\
-    iceland. . . . .\x07\x1500\
-    tonga. . . . . .\x05\x1500\
-    gfx803 . . . . .\x06\x1800\
-    fiji . . . . . .\x04\x1800\
-    polaris10. . . .\x09\x1800\
-    polaris11. . . .\x09\x1800\
-    gfx805 . . . . .\x06\x1C00\
-    tongapro . . . .\x08\x1C00\
-    gfx810 . . . . .\x06\x1E01\
-    stoney . . . . .\x06\x1E01\
-    gfx900 . . . . .\x06\x2001\
-    gfx902 . . . . .\x06\x2101\
-    gfx904 . . . . .\x06\x2201\
-    gfx906 . . . . .\x06\x2311\
-    gfx908 . . . . .\x06\x2411\
-    gfx909 . . . . .\x06\x2501\
-    gfx90a . . . . .\x06\x2611\
-    gfx90c . . . . .\x06\x2701\
-    gfx940 . . . . .\x06\x2811\
-    gfx941 . . . . .\x06\x2911\
-    gfx942 . . . . .\x06\x2A11\
-    gfx1010. . . . .\x07\x2B01\
-    gfx1011. . . . .\x07\x2C01\
-    gfx1012. . . . .\x07\x2D01\
-    gfx1013. . . . .\x07\x2E01\
-    gfx1030. . . . .\x07\x2F00\
-    gfx1031. . . . .\x07\x3000\
-    gfx1032. . . . .\x07\x3100\
-    gfx1033. . . . .\x07\x3200\
-    gfx1034. . . . .\x07\x3300\
-    gfx1035. . . . .\x07\x3400\
-    gfx1036. . . . .\x07\x3500\
-    gfx1100. . . . .\x07\x3600\
-    gfx1101. . . . .\x07\x3700\
-    gfx1102. . . . .\x07\x3800\
-    gfx1103. . . . .\x07\x3900\
-    gfx1150. . . . .\x07\x3A00\
-    gfx1151. . . . .\x07\x3B00\
-    gfx1152. . . . .\x07\x3C00\
-    gfx1200. . . . .\x07\x3D00\
-    gfx1201. . . . .\x07\x3E00\
-    gfx9-generic . .\x0C\x3F01\
-    gfx10-1-generic.\x0F\x4001\
-    gfx10-3-generic.\x0F\x4100\
-    gfx11-generic. .\x0D\x4200\
-    gfx12-generic. .\x0D\x4300";
-
-// The row of a name, by a number made from the name.
+// The row of a name, by a number made from the name: a map of std's would need a heap.
 const SLOTS: [u8; 160] = *b"\
     \x00\x1A\x02\x03\x0B\x06\x06\x07\x08\x3D\x0A\x0B\x0C\x42\x03\x0F\x40\x04\x12\x13\
     \x14\x15\x16\x17\x18\x08\x16\x1B\x3A\x1D\x14\x1E\x20\x0E\x10\x27\x24\x1F\x26\x27\
@@ -106,24 +124,24 @@ fn slot_of(w: &[u8]) -> usize
 }
 
 // The name of row k.
-pub(crate) fn name_at(t: &[u8], k: usize) -> &[u8]
+pub(crate) fn name_at(t: &[Row], k: usize) -> &[u8]
     requires { (t.now ≡ table) × (k < 68) }
     ensures { result.now ≡ name_at k }
 {
-    let a = k * ROW;
-    let n = t[a + LENGTH] as usize;
-    &t[a..a + n]
+    let row = &t[k];
+    let name: &[u8] = &row.name;
+    &name[..row.length]
 }
 
-// The row that has the name w; the number of rows where there is none.
-pub(crate) fn row_of(t: &[u8], w: &[u8]) -> usize
+// The row that has the name w.
+pub(crate) fn row_of(t: &[Row], w: &[u8]) -> Option<usize>
     requires { t.now ≡ table }
-    ensures { result ≡ first 68 (λ k. same (name_at k) w.now) }
+    ensures { MatchOption result (first 68 (λ k. same (name_at k) w.now) ≡ 68) (λ r. (first 68 (λ k. same (name_at k) w.now) ≡ r) × (r < 68)) }
 {
     let slots = SLOTS;
     let k = slots[slot_of(w)] as usize;
     if wire_read::same_bytes(name_at(t, k), w) {
-        return k;
+        return Some(k);
     }
-    ROWS
+    None
 }

@@ -15,7 +15,7 @@ use Rattle.selftest_ids.proofs.Computing.{words}
 
 -- offload binaries, by the reader and by the writer
 unfoldable pub binaries : Unit {0}
-unfolding words empty total tab first any_below ◌⨾◌ stop_when stop_if stop_at earlier slots binary.bytes_at binary.run binary.ended binary.size_of binary.entry_at binary.own binary.entry_of binary.key_at binary.text_at binary.string_at binary.pair binary.key binary.bad_head binary.bad_span binary.bad_kinds binary.bad_table binary.bad_string binary.bad_pair binary.bad_strings binary.bad_image binary.body_stop binary.binary_stop binary.key_in binary.bad_keys binary.hands_back binary.binary binary.binary_at contents.key_text contents.contents contents.field_bytes contents.texts contents.string_bytes contents.offsets contents.up8 contents.zeros contents.strings_start contents.strings_end contents.image_start contents.image_end contents.binary_size contents.head_fields contents.written contents.key_of contents.bad_text contents.bad_key_texts contents.too_big reader.past reader.next_stop reader.next reader.cursor_after reader.answer writer.bad_part writer.bad_pair writer.bad_pairs writer.given writer.write_stop writer.listed writer.write step_numbers
+unfolding words empty total tab first any_below ◌⨾◌ stop_when stop_if stop_at earlier slots binary.bytes_at binary.run binary.ended binary.size_of binary.entry_at binary.own binary.entry_of binary.key_at binary.text_at binary.string_at binary.pair binary.key binary.bad_head binary.bad_span binary.bad_kinds binary.bad_table binary.bad_string binary.bad_pair binary.bad_strings binary.bad_image binary.body_stop binary.binary_stop binary.key_in binary.equal_keys binary.hands_back binary.binary binary.binary_at contents.key_text contents.contents contents.field_bytes contents.texts contents.string_bytes contents.offsets contents.up8 contents.zeros contents.strings_start contents.strings_end contents.image_start contents.image_end contents.binary_size contents.head_fields contents.written contents.key_of contents.bad_text contents.bad_key_texts contents.too_big reader.past reader.next_stop reader.next reader.cursor_after reader.answer writer.bad_part writer.bad_pair writer.bad_pairs writer.given writer.write_stop writer.write step_numbers
 binaries = tt
 
 -- and recovered

@@ -1,4 +1,5 @@
 // Offload binaries, one after another, by a reader.
+// What is expected is given as numbers, since each case is an equation with a definition, which answers numbers.
 ghost use Rattle.std.specs.Prelude.{◌≡◌, [], ◌∷◌, ◌%◌};
 ghost use Rattle.offload_binary.specs.Reader.{next, answer};
 ghost use Rattle.harness.specs.Fields.{step_numbers};
@@ -25,14 +26,13 @@ pub(crate) const BARE: [u8; 72] =
 fn expect_numbers(got: [u64; 16], wanted: [u64; 16])
     requires { got ≡ wanted }
 {
-    let mut k = 0;
-    while k < 16 {
+    for k in 0..16 {
         check::expect(got[k] == wanted[k]);
-        k += 1;
     }
 }
 
 // What a reader at this cursor answers next: number and place; first byte, size, kinds, flags, image and number of pairs; pair i; and the cursor then.
+// The 16 numbers are one list, as the definition `step_numbers` has them and the call gives them.
 fn expect_next(binaries: &[u8], position: usize, taken: usize, i: usize, numbers: [u64; 16])
     requires { step_numbers (i % 32) (next binaries.now (record { position = position; taken = taken })) ≡ numbers }
 {
@@ -184,8 +184,8 @@ fn second_answer(bytes: &[u8]) -> Answer
     ensures { result ≡ answer bytes.now 1 }
 {
     let mut reader = Reader::open(bytes);
-    reader.next();
-    reader.next()
+    let _first = reader.next();
+    reader.next().into()
 }
 
 // Number and place of the second answer; first byte and size of its binary.

@@ -1,10 +1,10 @@
 // The binary writer.
-ghost use Rattle.std.specs.Prelude.{◌≡◌, [], ◌∷◌, set};
-ghost use Rattle.offload_binary.specs.Lists.{slots};
+// What is expected is given as numbers, since each case is an equation with a definition, which answers numbers.
+ghost use Rattle.std.specs.Prelude.{◌≡◌, ◌≤◌, [], ◌∷◌, take, replicate};
 ghost use Rattle.offload_binary.specs.Binary.{no_pair};
-ghost use Rattle.offload_binary.specs.Writer.{write, listed};
+ghost use Rattle.offload_binary.specs.Writer.{write};
 
-use offload_binary::{Part, StringPair, Tags, Written};
+use offload_binary::{NO_PAIR, Part, StringPair, Tags, Written};
 
 // Keys and texts of two pairs.
 const STRINGS: [u8; 34] = *b"archsm_70triplenvptx64-nvidia-cuda";
@@ -61,8 +61,7 @@ fn write_pairs(
 ) -> Written
     ensures { (result ≡ (write tags image.now (x ∷ y ∷ []) strings.now out.old).answer) × (out.new ≡ (write tags image.now (x ∷ y ∷ []) strings.now out.old).out) }
 {
-    let pairs = [x, y];
-    offload_binary_list::write_binary(tags, image, &pairs, strings, out)
+    offload_binary_writer::write_binary(tags, image, &[x, y], strings, out).into()
 }
 
 // What the binary writer returns for two pairs, and what it leaves in `out`.
@@ -159,8 +158,8 @@ pub(crate) fn not_written() {
     );
 }
 
-// The same of the first n pairs of an array that starts with this one.
-fn expect_array(
+// The same of a list of n pairs that starts with this one; the others are of no bytes.
+fn expect_listed(
     x: StringPair,
     n: usize,
     tags: Tags,
@@ -171,18 +170,20 @@ fn expect_array(
     written: usize,
     after: &[u8],
 )
-    requires { write tags image.now (listed (set (slots 32 no_pair []) 0 x) n) strings.now out.old ≡ record { answer = record { number = number; place = 0; len = written }; out = after.now } }
+    requires few { n ≤ 33 }
+    requires gives { write tags image.now (take n (x ∷ replicate 32 no_pair)) strings.now out.old ≡ record { answer = record { number = number; place = 0; len = written }; out = after.now } }
 {
-    let mut pairs = offload_binary_parts::no_pairs();
+    let mut pairs = [NO_PAIR; 33];
     pairs[0] = x;
-    let r = offload_binary_writer::write_array(tags, image, pairs, n, strings, out);
+    let got = offload_binary_writer::write_binary(tags, image, &pairs[..n], strings, out);
+    let r = Written::from(got);
     check::expect((r.number == number) & (r.place == 0) & (r.len == written));
     check::expect(check::same(out, after));
 }
 
 // "Binary with no strings and no image: 72 bytes."
 pub(crate) fn bare() {
-    expect_array(
+    expect_listed(
         ARCH,
         0,
         NO_TAGS,
@@ -198,7 +199,7 @@ pub(crate) fn bare() {
 
 // "With `arch`/`sm_70` and a 3-byte image: image at 104, size 112."
 pub(crate) fn with_arch() {
-    expect_array(
+    expect_listed(
         ARCH,
         1,
         NO_TAGS,
@@ -216,7 +217,7 @@ pub(crate) fn with_arch() {
 
 // STRINGS of more than 32 pairs.
 pub(crate) fn too_many() {
-    expect_array(
+    expect_listed(
         ARCH,
         33,
         NO_TAGS,

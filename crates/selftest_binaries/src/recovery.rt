@@ -1,8 +1,10 @@
 // Binaries recovered from damaged sequences.
+// What is expected is given as numbers, since each case is an equation with a definition, which answers numbers.
 ghost use Rattle.std.specs.Prelude.{◌≡◌, [], ◌∷◌, length};
 ghost use Rattle.offload_binary.specs.Recovery.{recover, copied_to, skipped_to};
 
 use crate::binaries::BARE;
+use offload_binary::Recovered;
 
 // The binary of 72 bytes, with three bytes before it and two behind.
 const DAMAGED: [u8; 77] = *b"\x10\xff\x10\
@@ -39,7 +41,7 @@ fn expect_recovered(
     requires { (recover binaries.now (length out.old) 2 ≡ record { number = number; place = 0; length = written; spans = count }) × (copied_to binaries.now 2 out.old ≡ after.now) × (skipped_to binaries.now (length out.old) ((1 ∷ 2 ∷ []) ∷ (3 ∷ 4 ∷ []) ∷ []) ≡ first ∷ second ∷ []) }
 {
     let mut spans = [[1u64, 2], [3, 4]];
-    let r = offload_binary_recovery::recover(binaries, out, &mut spans);
+    let r = Recovered::from(offload_binary_recovery::recover(binaries, out, &mut spans));
     check::expect(
         (r.number == number) & (r.place == 0) & (r.length == written) & (r.spans == count),
     );

@@ -1,3 +1,2 @@
 pub mod Computing
-pub mod SlotLaws
 pub mod EachCase

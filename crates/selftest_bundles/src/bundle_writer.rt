@@ -1,4 +1,5 @@
 // The bundle writer.
+// What is expected is given as numbers, since each case is an equation with a definition, which answers numbers.
 ghost use Rattle.std.specs.Prelude.{◌≡◌, [], ◌∷◌, length};
 ghost use Rattle.entry_id.specs.Rules.{id_rules};
 ghost use Rattle.bundle.specs.Writer.{write, written_to};
@@ -84,7 +85,7 @@ fn write_two(x: EntryRecord, y: EntryRecord, ids: &[u8], images: &[u8], out: &mu
     ensures { (result ≡ write id_rules 2 (x ∷ y ∷ []) ids.now images.now (length out.old)) × (out.new ≡ written_to id_rules 2 (x ∷ y ∷ []) ids.now images.now out.old) }
 {
     let records = [x, y];
-    normal_form::write_bundle(&records, ids, images, out)
+    Written::from(normal_form::write_bundle(&records, ids, images, out))
 }
 
 // What the bundle writer returns for two records, and what it leaves in `out`.
@@ -102,7 +103,12 @@ fn expect_bundle(
     requires { (write id_rules 2 (x ∷ y ∷ []) ids.now images.now (length out.old) ≡ record { number = number; place = place; length = written }) × (written_to id_rules 2 (x ∷ y ∷ []) ids.now images.now out.old ≡ after.now) }
 {
     let r = write_two(x, y, ids, images, out);
-    check::expect((r.number == number) & (r.place == place) & (r.length == written));
+    let expected = Written {
+        number,
+        place,
+        length: written,
+    };
+    check::expect(r == expected);
     check::expect(check::same(out, after));
 }
 

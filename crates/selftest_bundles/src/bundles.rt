@@ -1,4 +1,5 @@
 // Bundles: the check, the pick and the normal form.
+// What is expected is given as numbers, since each case is an equation with a definition, which answers numbers.
 ghost use Rattle.std.specs.Prelude.{◌≡◌, length};
 ghost use Rattle.entry_id.specs.Rules.{id_rules, rules_of};
 ghost use Rattle.entry_id.specs.declared.Reading.TheVariants.{General};
@@ -7,6 +8,7 @@ ghost use Rattle.bundle.specs.Pick.{pick};
 ghost use Rattle.bundle.specs.EntryAt.{entry_at};
 ghost use Rattle.bundle.specs.Normal.{normalise, normalised};
 
+use bundle::{Checked, Located, Picked, Written};
 use entry_id::Reading;
 
 // "Magic and eight zero bytes"
@@ -74,11 +76,16 @@ const TWO_NAMES: [u8; 142] = *b"__CLANG_OFFLOAD_BUNDLE__\x02\0\0\0\0\0\0\0\
 fn expect_check_by(reading: Reading, bundle: &[u8], number: usize, place: usize, count: usize)
     requires { check (rules_of reading) bundle.now ≡ record { number = number; place = place; count = count } }
 {
-    let r = bundle_reader::check_by(reading, bundle);
-    check::expect((r.number == number) & (r.place == place) & (r.count == count));
+    let expected = Checked {
+        number,
+        place,
+        count,
+    };
+    check::expect(Checked::from(bundle_reader::check_by(reading, bundle)) == expected);
 }
 
 // The check by the general reading.
+// Most cases are by it, and need not name it. The same holds of the pick and of the normal form.
 fn expect_check(bundle: &[u8], number: usize, place: usize, count: usize)
     requires { check (rules_of General) bundle.now ≡ record { number = number; place = place; count = count } }
 {
@@ -336,14 +343,14 @@ fn expect_pick_by(
 )
     requires { pick (rules_of reading) bundle.now device.now ≡ record { number = number; place = place; index = index; position = position; size = size } }
 {
-    let r = bundle_reader::pick_by(reading, bundle, device);
-    check::expect(
-        (r.number == number)
-            & (r.place == place)
-            & (r.index == index)
-            & (r.position == position)
-            & (r.size == size),
-    );
+    let expected = Picked {
+        number,
+        place,
+        index,
+        position,
+        size,
+    };
+    check::expect(Picked::from(bundle_reader::pick_by(reading, bundle, device)) == expected);
 }
 
 // The pick by the general reading.
@@ -505,15 +512,15 @@ fn expect_entry(
 )
     requires { entry_at id_rules bundle.now index ≡ record { number = number; place = place; position = position; size = size; id_position = id_position; id_length = id_length } }
 {
-    let r = bundle_reader::entry(bundle, index);
-    check::expect(
-        (r.number == number)
-            & (r.place == place)
-            & (r.position == position)
-            & (r.size == size)
-            & (r.id_position == id_position)
-            & (r.id_length == id_length),
-    );
+    let expected = Located {
+        number,
+        place,
+        position,
+        size,
+        id_position,
+        id_length,
+    };
+    check::expect(Located::from(bundle_reader::entry(bundle, index)) == expected);
 }
 
 // Entries by their index; past the last, NONE.
@@ -542,8 +549,12 @@ fn expect_normalise_by(
 )
     requires { (normalise (rules_of reading) bundle.now (length out.old) ≡ record { number = number; place = place; length = written }) × (normalised (rules_of reading) bundle.now out.old ≡ after.now) }
 {
-    let r = normal_form::normalise_by(reading, bundle, out);
-    check::expect((r.number == number) & (r.place == place) & (r.length == written));
+    let expected = Written {
+        number,
+        place,
+        length: written,
+    };
+    check::expect(Written::from(normal_form::normalise_by(reading, bundle, out)) == expected);
     check::expect(check::same(out, after));
 }
 

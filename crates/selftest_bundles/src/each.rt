@@ -1,9 +1,11 @@
 // The pick for each of several device names.
+// What is expected is given as numbers, since each case is an equation with a definition, which answers numbers.
 ghost use Rattle.std.specs.Prelude.{◌≡◌, true, length};
 ghost use Rattle.entry_id.specs.Rules.{id_rules};
 ghost use Rattle.bundle.specs.Each.{pick_each, slots_after};
 
 use crate::bundles::{HOST, SHARED_BYTE, TWO_CARDS, TWO_KINDS};
+use bundle::PickedEach;
 
 // The highest number.
 const HIGHEST: u64 = 18446744073709551615;
@@ -39,30 +41,6 @@ const LONG_NAME: [u8; 257] =
     pppppppppppppppppppppppppppppppppppppppppppppppppppppppppppppppppppppppppppppppppppppppppppppppp\
     ppppppppppppppppppppppppppppppppppppppppppppppppppppppppppppppppp";
 
-// Returns whether a and b are the same slot.
-fn same_slot(a: [u64; 4], b: [u64; 4]) -> bool
-    ensures { (result ≡ true → a ≡ b) × (a ≡ b → result ≡ true) }
-{
-    (a[0] == b[0]) & (a[1] == b[1]) & (a[2] == b[2]) & (a[3] == b[3])
-}
-
-// Returns whether a and b hold the same slots.
-fn same_slots(a: &[[u64; 4]], b: &[[u64; 4]]) -> bool
-    ensures { (result ≡ true → a.now ≡ b.now) × (a.now ≡ b.now → result ≡ true) }
-{
-    if a.len() != b.len() {
-        return false;
-    }
-    let mut i: usize = 0;
-    while i < a.len() {
-        if !same_slot(a[i], b[i]) {
-            return false;
-        }
-        i += 1;
-    }
-    true
-}
-
 // What the call returns, and what it leaves in the slots.
 fn expect_each(
     bundle: &[u8],
@@ -78,15 +56,17 @@ fn expect_each(
 )
     requires { (pick_each id_rules bundle.now buffer.now names.now (length slots.old) ≡ record { number = number; place = place; slots = written; word = word; taken = taken }) × (slots_after id_rules bundle.now buffer.now names.now slots.old ≡ after.now) }
 {
-    let r = bundle_reader::pick_each(bundle, buffer, names, slots);
+    let expected = PickedEach {
+        number,
+        place,
+        slots: written,
+        word,
+        taken,
+    };
     check::expect(
-        (r.number == number)
-            & (r.place == place)
-            & (r.slots == written)
-            & (r.word == word)
-            & (r.taken == taken),
+        PickedEach::from(bundle_reader::pick_each(bundle, buffer, names, slots)) == expected,
     );
-    check::expect(same_slots(slots, after));
+    check::expect(*slots == *after);
 }
 
 // No name, and one: a slot too few, as many, and one more.

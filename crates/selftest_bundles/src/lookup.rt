@@ -33,13 +33,7 @@ fn expect_lookup<'a>(
     let mut given = [1u64, 2, 3, 4, 5];
     let part = bundle_lookup::lookup(patch, main, device, &mut given);
     check::expect(check::same(part, image));
-    check::expect(
-        (given[0] == numbers[0])
-            & (given[1] == numbers[1])
-            & (given[2] == numbers[2])
-            & (given[3] == numbers[3])
-            & (given[4] == numbers[4]),
-    );
+    check::expect(given == numbers);
 }
 
 // The patch answers where it has an entry, also one with an empty image; the main bundle where it has none.

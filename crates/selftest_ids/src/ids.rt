@@ -4,6 +4,7 @@ ghost use Rattle.entry_id.specs.Canonical.{compatible_text, same_text, mixed_tex
 ghost use Rattle.entry_id.specs.Rules.{form_in};
 ghost use Rattle.entry_id.specs.declared.Reading.TheVariants.{General, Profile};
 
+use entry_compare::Relation;
 use entry_id::Reading;
 
 // An ID of 255 bytes with an alternative name.
@@ -13,15 +14,20 @@ const LONG: [u8; 255] =
     vvvvvvvvvvvvvvvvvvvvvvvvvvvvvvvvvvvvvvvvvvvvvvvvvv-amdhsa--fiji";
 
 // The length of an ID's canonical form by a reading, and what making it leaves in `out`. Length 0: it is no ID, or its form has no room.
+// 0 is the length of the definition `form_in` then, which has no bytes.
 fn expect_form_by(reading: Reading, id: &[u8], out: &mut [u8], len: usize, after: &[u8])
     requires { (length (form_in reading (length out.old) id.now) ≡ len) × (form_in reading (length out.old) id.now ++ drop len out.old ≡ after.now) }
 {
-    let made = profile_form::canonical_by(reading, id, out);
-    check::expect(made.length == len);
+    let made = match profile_form::canonical_by(reading, id, out) {
+        Some(form) => form.length,
+        None => 0,
+    };
+    check::expect(made == len);
     check::expect(check::same(out, after));
 }
 
 // The same by the general reading.
+// Most cases are by it, and need not name it.
 fn expect_form(id: &[u8], out: &mut [u8], len: usize, after: &[u8])
     requires { (length (form_in General (length out.old) id.now) ≡ len) × (form_in General (length out.old) id.now ++ drop len out.old ≡ after.now) }
 {
@@ -235,12 +241,17 @@ pub(crate) fn long_forms() {
 }
 
 // How two canonical forms stand to each other: whether the first, as an entry, is compatible with the second; same meaning; mixed.
+// Two truths are expected, since the definitions `same_text` and `mixed_text` tell them.
 fn expect_standing(entry: &[u8], device: &[u8], compatible: bool, same: bool, mixed: bool)
     requires { (compatible_text entry.now device.now ≡ compatible) × (same_text entry.now device.now ≡ same) × (mixed_text entry.now device.now ≡ mixed) }
 {
     check::expect(entry_compare::compatible(entry, device) == compatible);
-    let r = entry_compare::relation_of(entry, device);
-    check::expect((r.same == same) & (r.mixed == mixed));
+    let (is_same, is_mixed) = match entry_compare::relation_of(entry, device) {
+        Relation::Same => (true, false),
+        Relation::Mixed => (false, true),
+        Relation::Apart => (false, false),
+    };
+    check::expect((is_same == same) & (is_mixed == mixed));
 }
 
 pub(crate) fn standings() {

@@ -6,9 +6,9 @@ ghost use Rattle.wire.specs.Bytes.{same, before, common, overwrite};
 fn expect_words(s: &[u8], at: usize, two: u64, four: u64, eight: u64)
     requires { (word 2 s.now at ≡ two) × (word 4 s.now at ≡ four) × (word 8 s.now at ≡ eight) }
 {
-    check::expect(wire_read::word2_at(s, at) == two);
-    check::expect(wire_read::word4_at(s, at) == four);
-    check::expect(wire_read::word8_at(s, at) == eight);
+    check::expect(wire_read::word_at::<2>(s, at) == two);
+    check::expect(wire_read::word_at::<4>(s, at) == four);
+    check::expect(wire_read::word_at::<8>(s, at) == eight);
 }
 
 pub(crate) fn words() {
@@ -82,6 +82,7 @@ pub(crate) fn end_comparisons() {
     expect_compared(b"0123456789b", b"0123456789abcde", 10, false, false);
 }
 
+// Not one function with `expect_copy`: a closure over the call would need a clause that says what it writes.
 fn expect_put(out: &mut [u8], at: usize, value: u64, after: &[u8])
     requires { overwrite out.old at (bytes_of 8 value) ≡ after.now }
 {

@@ -1,9 +1,12 @@
 // Inputs that are too large to compute on in the prover: what the library answers is printed, and held to the file `stdout`.
+// Each record's numbers are printed as `stdout` has them: Display would have to stand in the library's crates, for this test alone.
+// They are cast to words by `as`: both have 64 bits here, and std has no `From` between them.
 #![tactic(auto)]
 
 ghost use Rattle.std.specs.Prelude.{◌<◌, ◌≤◌, length, IfOk};
 
-use offload_binary::Part;
+use bundle::{Checked, Picked, PickedEach, Written};
+use offload_binary::{Part, Recovered};
 use std::io;
 use std::io::Read;
 
@@ -21,7 +24,7 @@ fn print(rt: &impl Print, number: u64) -> io::Result<()> {
 }
 
 fn print_check(rt: &impl Print, bundle: &[u8]) -> io::Result<()> {
-    let r = bundle_reader::check(bundle);
+    let r = Checked::from(bundle_reader::check(bundle));
     print!(rt; "check")?;
     print(rt, r.number as u64)?;
     print(rt, r.place as u64)?;
@@ -30,7 +33,7 @@ fn print_check(rt: &impl Print, bundle: &[u8]) -> io::Result<()> {
 }
 
 fn print_pick(rt: &impl Print, bundle: &[u8], device: &[u8]) -> io::Result<()> {
-    let r = bundle_reader::pick(bundle, device);
+    let r = Picked::from(bundle_reader::pick(bundle, device));
     print!(rt; "pick")?;
     print(rt, r.number as u64)?;
     print(rt, r.place as u64)?;
@@ -64,7 +67,7 @@ fn print_each(
     names: &[[u64; 2]],
     slots: &mut [[u64; 4]],
 ) -> io::Result<()> {
-    let r = bundle_reader::pick_each(bundle, buffer, names, slots);
+    let r = PickedEach::from(bundle_reader::pick_each(bundle, buffer, names, slots));
     print!(rt; "pick each")?;
     print(rt, r.number as u64)?;
     print(rt, r.place as u64)?;
@@ -77,7 +80,7 @@ fn print_each(
 
 // Normalises into `out`: what is returned, and the sum of the output then.
 fn print_normal(rt: &impl Print, bundle: &[u8], out: &mut [u8]) -> io::Result<usize> {
-    let r = normal_form::normalise(bundle, out);
+    let r = Written::from(normal_form::normalise(bundle, out));
     print!(rt; "normalise")?;
     print(rt, r.number as u64)?;
     print(rt, r.place as u64)?;
@@ -148,7 +151,8 @@ fn put_binaries(out: &mut [u8]) {
 pub fn sixty_five(rt: &impl Print) -> io::Result<()> {
     let mut binaries = [b'.'; 4745];
     put_binaries(&mut binaries);
-    let r = offload_binary_recovery::recover(&binaries, &mut [b'.'; 1], &mut [[1, 2]; 1]);
+    let recovered = offload_binary_recovery::recover(&binaries, &mut [b'.'; 1], &mut [[1, 2]; 1]);
+    let r = Recovered::from(recovered);
     print!(rt; "recover")?;
     print(rt, r.number as u64)?;
     print(rt, r.place as u64)?;
@@ -158,6 +162,7 @@ pub fn sixty_five(rt: &impl Print) -> io::Result<()> {
 }
 
 // Reads until `buf` is full or the input ends, and returns how many bytes that gave.
+// By hand, as in `offload_compare`, but a read that fails is an error here: `read_exact` does not say how much it read.
 fn read_full(input: &mut impl Read, buf: &mut [u8]) -> io::Result<usize>
     ensures { IfOk result (λ n. n ≤ length buf.new) }
 {
@@ -173,6 +178,7 @@ fn read_full(input: &mut impl Read, buf: &mut [u8]) -> io::Result<usize>
 }
 
 // A real bundle by LLVM, on standard input: samples/bundles/five-fields.bundle.
+// No heap: the bytes fill the front of an array, and the length says how far.
 pub fn real_bundle(rt: &(impl Print + Input)) -> io::Result<()> {
     let mut buffer = [0u8; 8192];
     let n = read_full(&mut rt.reader(), &mut buffer)?;

@@ -8,3 +8,4 @@ pub mod Theorems
 pub mod Limit
 pub mod Bits
 pub mod Rows
+pub mod Refusals

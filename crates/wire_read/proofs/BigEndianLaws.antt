@@ -1,20 +1,20 @@
 -- Words read the greatest byte first, and the order of two byte strings by such words. Assumes nothing.
 use Prim.Native.Nat.{ℕ, zero, suc, ◌+◌, ◌*◌, ◌-◌, ◌/◌, ◌%◌, ◌^◌, ◌<◌, ◌≤◌}
 use native.Mathlib.Omega.{arith}
-use native.Mathlib.Nat.{add-zero, zero-add, suc-add, add_comm, div-add-mod, mod-lt, mul-suc, mul_comm, mul_assoc, mul-add, mul-le-mul_left, pow-succ'}
+use native.Mathlib.Nat.{add-zero, mul-suc, mul_comm, mul-le-mul_left, pow-succ'}
 use mathlib.Core.Path.{◌≡◌, refl, sym, ap, ◌∙◌}
 use mathlib.Core.Logic.{inl, inr}
-use mathlib.Core.List.{List}
+use mathlib.Core.List.{List, [], ◌∷◌}
+use Rattle.std.specs.Int.{w64, swap_bytes, from_be_bytes}
 use lib.Dec.{ltb, ltb→lt, lt→ltb}
 use lib.ListN.{length, get_or, get_or-eq_default}
-use lib.Pow.{pow-add}
 use borrow.Author.Tests.{eqb-false, ltb-true, ltb-false, lt-ltb, le-ltb}
-use Rattle.wire.specs.Word.{word}
+use Rattle.wire.specs.Word.{word, bytes_of}
 use Rattle.wire.specs.Bytes.{before, common}
 use Rattle.wire.proofs.Bools.{by_bool, bool_ext}
 use Rattle.wire.proofs.ByteLaws.{common-apart, common_get, before_in, before_end, before-not, before-over}
-use Rattle.wire.proofs.WordLaws.{word_byte, word_split, word_lt}
-use Rattle.wire_read.specs.BigEndian.{big_word, Swapped}
+use Rattle.wire.proofs.WordLaws.{bytes_of_le, word_step}
+use Rattle.wire_read.specs.BigEndian.{big_word}
 
 -- ---- numbers by a first digit and the rest
 
@@ -52,15 +52,6 @@ big_step : (n : ℕ) (s : List ℕ) (at : ℕ) → big_word (suc n) s at ≡ 256
 unfolding big_word
 big_step n s at = refl
 
-big_byte : (s : List ℕ) (at : ℕ) → big_word 1 s at ≡ get_or s at 0
-big_byte s at = omega (arith, big_step 0 s at, big_none s (at + 1))
-
-big_split : (m n : ℕ) (s : List ℕ) (at : ℕ) → big_word (m + n) s at ≡ 256 ^ n * big_word m s at + big_word n s (at + m)
-big_split zero n s at = rw (zero-add n, add-zero at, big_none s at) (omega arith)
-big_split (suc m) n s at =
-    let shift : at + 1 + m ≡ at + suc m = omega arith in
-    rw (suc-add m n, big_step (m + n) s at, big_split m n s (at + 1), big_step m s at, shift, mul-add (256 ^ n) (256 ^ m * get_or s at 0) (big_word m s (at + 1)), pow-add 256 m n, mul_comm (256 ^ m) (256 ^ n), mul_assoc (256 ^ n) (256 ^ m) (get_or s at 0)) (omega arith)
-
 -- past the end every byte counts 0
 big_beyond : (n : ℕ) (s : List ℕ) (at : ℕ) → length s ≤ at → big_word n s at ≡ 0
 big_beyond zero s at h = big_none s at
@@ -72,17 +63,22 @@ big_lt (suc n) s at h = omega (arith, big_step n s at, lead (256 ^ n) (get_or s 
 
 -- ---- bytes swapped
 
-pub swapped_byte : (x : ℕ) → Swapped 1 x x
-swapped_byte x s at h e = e ∙ word_byte s at ∙ sym (big_byte s at)
+bytes_at : ℕ → List ℕ → ℕ → List ℕ
+bytes_at zero s at = []
+bytes_at (suc n) s at = get_or s at 0 ∷ bytes_at n s (at + 1)
 
--- the halves swapped, and exchanged
-pub swapped_halves : (n x u v : ℕ) → Swapped n (x % 256 ^ n) u → Swapped n (x / 256 ^ n) v → Swapped (n + n) x (256 ^ n * u + v)
-swapped_halves n x u v hu hv s at h e =
-    let m = 256 ^ n in
-    let low = word_lt n s at h in
-    let d = digits m (x / m) (word n s (at + n)) (x % m) (word n s at) (mod-lt x (omega (arith, low))) low
-    (div-add-mod x m ∙ e ∙ word_split n n s at ∙ add_comm (word n s at) (m * word n s (at + n))) in
-    rw (hu s at h d.1, hv s (at + n) h d.0) (sym (big_split n n s at))
+module _ (s : List ℕ) (h : (k : ℕ) → get_or s k 0 < 256) where
+  bytes_of_word : (n at : ℕ) → bytes_of n (word n s at) ≡ bytes_at n s at
+  unfolding bytes_of bytes_at
+  bytes_of_word zero at = refl
+  bytes_of_word (suc n) at =
+      let low : word (suc n) s at % 256 ≡ get_or s at 0 = omega (arith, word_step n s at, h at) in
+      let high : word (suc n) s at / 256 ≡ word n s (at + 1) = omega (arith, word_step n s at, h at) in
+      rw (low, high, bytes_of_word n (at + 1))
+
+  pub swapped : (at : ℕ) → swap_bytes w64 (word 8 s at) ≡ big_word 8 s at
+  unfolding bytes_at big_word
+  swapped at = ap (from_be_bytes w64) (bytes_of_le (word 8 s at) ∙ bytes_of_word 8 at) ∙ omega arith
 
 -- ---- the order of two byte strings by such words
 
@@ -123,7 +119,7 @@ module _ (a b : List ℕ) (p : (k : ℕ) → get_or a k 0 < 256) (q : (k : ℕ) 
       (λ f. let z : at ≡ common a b = omega (arith, h, ltb-false at (common a b) f) in rw (sym z) at (big_apart n (rw z at d)))
 
   -- both go on behind the common start, which ends inside: the words differ
-  pub big_differs : (n at : ℕ) → at ≤ common a b → common a b < at + n → common a b < length a → common a b < length b → big_word n a at ≡ big_word n b at → ⊥
+  big_differs : (n at : ℕ) → at ≤ common a b → common a b < at + n → common a b < length a → common a b < length b → big_word n a at ≡ big_word n b at → ⊥
   big_differs n at h inside ha hb e =
       let z : at + (common a b - at) ≡ common a b = omega arith in
       eqb-false _ _ (common-apart a b ha hb) (rw z at (big_get n at e (common a b - at) (omega (arith, h, inside))))

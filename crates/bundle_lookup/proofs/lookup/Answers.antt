@@ -10,15 +10,15 @@ use Rattle.bundle_lookup.proofs.lookup.Goals as goal
 pub part_of-requires : goal.part_of-requires
 part_of-requires c =
     let a = c.args in
-    rw c.find_image-f.ensures (lookup_exact id_rules a.patch.now a.main.now a.device.now id_rules_lawful).within
+    rw c.find_image-found.ensures (lookup_exact id_rules a.patch.now a.main.now a.device.now id_rules_lawful).within
 
 pub returns : goal.returns
 unfolding numbers_of
 returns c = let a = c.args in
-    let e = c.find_image-f.ensures in
+    let e = c.find_image-found.ensures in
     record {
       result_value = c.part_of.ensures
           ∙ ap (λ (f : Found). take f.size (drop f.position (bundle_of a.patch.now a.main.now f.bundle))) e
           ∙ sym (lookup_exact id_rules a.patch.now a.main.now a.device.now id_rules_lawful).part;
-      numbers_after = ap numbers_of e;
+      numbers_after = ap numbers_of (c.from-f.ensures ∙ e);
     }

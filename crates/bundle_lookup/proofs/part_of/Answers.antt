@@ -1,28 +1,18 @@
-use mathlib.Core.Path.{sym, ap, ◌∙◌}
-use lib.ListN.{take, drop}
-use lib.Seq.{take-nil, drop-nil}
-use Rattle.bundle_lookup.proofs.AnswerLaws.{bundle-first, bundle_second, bundle-none}
+use Rattle.bundle.specs.Lookup.{bundle_of}
 use Rattle.bundle_lookup.proofs.part_of.Goals as goal
 
 pub part-requires : goal.part-requires
-part-requires c = rw (bundle-first c.args.patch.now c.args.main.now _ c.if-bundle-eq-PATCH.true) at c.requires
+unfolding bundle_of
+part-requires c = rw (c.in-Ok.is, c.in-Patch.is) at c.requires
 
-pub returns-then-bundle-eq-PATCH : goal.returns-then-bundle-eq-PATCH
-returns-then-bundle-eq-PATCH c =
-    let a = c.args in
-    c.part.ensures ∙ ap (λ s. take a.f.size (drop a.f.position s)) (sym (bundle-first a.patch.now a.main.now _ c.if-bundle-eq-PATCH.true))
+pub part-requires-in-Main : goal.part-requires-in-Main
+unfolding bundle_of
+part-requires-in-Main c = rw (c.in-Ok.is, c.in-Main.is) at c.requires
 
-pub part-requires-then-bundle-eq-MAIN : goal.part-requires-then-bundle-eq-MAIN
-part-requires-then-bundle-eq-MAIN c = rw (bundle_second c.args.patch.now c.args.main.now _ c.if-bundle-eq-MAIN.true) at c.requires
+pub returns-in-Patch : goal.returns-in-Patch
+unfolding bundle_of
+returns-in-Patch c = rw (c.in-Ok.is, c.in-Patch.is) c.part.ensures
 
-pub returns-then-bundle-eq-MAIN : goal.returns-then-bundle-eq-MAIN
-returns-then-bundle-eq-MAIN c =
-    let a = c.args in
-    c.part-then-bundle-eq-MAIN.ensures ∙ ap (λ s. take a.f.size (drop a.f.position s)) (sym (bundle_second a.patch.now a.main.now _ c.if-bundle-eq-MAIN.true))
-
-pub returns : goal.returns
-returns c =
-    let a = c.args in
-    sym (ap (λ s. take a.f.size (drop a.f.position s)) (bundle-none a.patch.now a.main.now _ c.if-bundle-eq-PATCH.false c.if-bundle-eq-MAIN.false)
-    ∙ ap (take a.f.size) (drop-nil a.f.position)
-    ∙ take-nil a.f.size)
+pub returns-in-Main : goal.returns-in-Main
+unfolding bundle_of
+returns-in-Main c = rw (c.in-Ok.is, c.in-Main.is) c.part-in-Main.ensures

@@ -1,7 +1,7 @@
-use borrow.Author.Rules.{rules}
-use Rattle.entry_id.specs.Rules.{id_rules, canon_of, rules_of}
+use mathlib.Core.Path.{ap, ◌∙◌}
+use Rattle.bundle.specs.Check.{check}
+use Rattle.bundle_reader.proofs.IdLaws.{general_is}
 use Rattle.bundle_reader.proofs.check.Goals as goal
 
 pub returns : goal.returns
-unfolding rules_of canon_of id_rules
-returns c = search rules
+returns c = c.check_by.ensures ∙ ap (λ R. check R c.args.bundle.now) general_is

@@ -1,12 +1,14 @@
 use mathlib.Core.Path.{◌≡◌}
-use Prim.Native.Nat.{◌≤◌, ◌-◌, ◌+◌}
-use Rattle.wire.specs.Lists.{total}
+use Prim.Native.Nat.{◌≤◌, ◌+◌}
+use lib.ListN.{drop}
 use Rattle.wire.specs.Limit.{limit}
-use Rattle.normal_form.specs.Code.{up_to, row_length, entry_length}
+use Rattle.wire.specs.Lists.{total}
+use Rattle.bundle.specs.Layout.{row_size, entry_size, packed_end, packed_length}
+use Rattle.normal_form.specs.Code.{values}
 use Rattle.normal_form.proofs.measure.Given as goal
 
-abbrev pub invariant-loop-i : goal.invariant-loop-i
-invariant-loop-i l = (l.i ≤ l.n) × (l.end ≡ 32 + total (row_length l.lens) (up_to l.i)) × (l.all ≡ 32 + total (entry_length l.rows l.lens) (up_to l.i)) × (l.end ≤ l.all) × (l.all ≤ limit)
-
-abbrev pub decreases-loop-i : goal.decreases-loop-i
-decreases-loop-i l = l.n - l.i
+-- what is left makes up the whole
+abbrev pub invariant-loop-entry : goal.invariant-loop-entry
+invariant-loop-entry l =
+    let rest = drop l.entry-index (values l.entries) in
+    (l.end + total row_size rest ≡ packed_end (values l.entries)) × (l.all + total entry_size rest ≡ packed_length (values l.entries)) × (l.end ≤ l.all) × (l.all ≤ limit)

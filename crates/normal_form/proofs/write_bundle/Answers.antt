@@ -1,17 +1,50 @@
-use Rattle.std.proofs.Common.{length, ap₂, ◌∙◌}
+use native.Mathlib.Omega.{arith}
+use mathlib.Core.Path.{sym, ap, ◌∙◌}
+use lib.ListN.{length}
+use lib.Seq.{length-take-le}
+use Rattle.std.proofs.Common.{Err}
+use Rattle.std.proofs.lemmas.Result.{err_from_is_err_and}
 use Rattle.entry_id.specs.Rules.{id_rules}
-use Rattle.bundle.specs.Writer.{write, written_to}
-use Rattle.normal_form.proofs.GatherLaws.{write-gathered, written-gathered}
+use Rattle.entry_id.proofs.RuleLaws.{id_rules_lawful}
+use Rattle.bundle.specs.Results.{written_of}
+use Rattle.bundle_reader.proofs.ExamineLaws.{records_say}
+use Rattle.normal_form.proofs.GivenLaws.{given_short}
+use Rattle.normal_form.proofs.WriterLaws.{write_refused, written_refused, records-filled, records-given, accepted-answer, accepted-bytes}
 use Rattle.normal_form.proofs.write_bundle.Goals as goal
 
--- what the writer makes of the array is what it makes of the list
+pub returns-in_err-examine_records : goal.returns-in_err-examine_records
+returns-in_err-examine_records c =
+    let a = c.args in
+    let e = err_from_is_err_and c.from_residual.result c.from_residual.ensures.1 in
+    let x = c.in_err-examine_records.ensures.stop in
+    record {
+      value = ap written_of e.1 ∙ ap (λ r. written_of (Err r)) e.2 ∙ write_refused id_rules a.records.now a.ids.now a.images.now c.in_err-examine_records.field-0.0 x (length a.out.now);
+      out_after = written_refused id_rules a.records.now a.ids.now a.images.now c.in_err-examine_records.field-0.0 x a.out.now;
+    }
+
+pub entries_of-entries-requires : goal.entries_of-entries-requires
+entries_of-entries-requires c = let e = c.in_ok-examine_records.ensures in records-filled _ _ _ _ e.stop _ (records_say _ _ _ _ _ _ e.stop e.ids_after e.ids_len)
+
+pub slice_bounds-entries-end : goal.slice_bounds-entries-end
+slice_bounds-entries-end c =
+    let e = c.in_ok-examine_records.ensures in
+    omega (arith, (records_say _ _ _ _ _ _ e.stop e.ids_after e.ids_len).few, c.entries_of-entries.ensures.0)
+
+pub slice_bounds-write_entries-end : goal.slice_bounds-write_entries-end
+slice_bounds-write_entries-end c =
+    let e = c.in_ok-examine_records.ensures in
+    sym (length-take-le _ _ (omega (arith, (records_say _ _ _ _ _ _ e.stop e.ids_after e.ids_len).few, c.entries_of-entries.ensures.0)))
+
+pub write_entries-requires : goal.write_entries-requires
+write_entries-requires c =
+    let e = c.in_ok-examine_records.ensures in
+    given_short id_rules id_rules_lawful _ _ _ _ (c.entries_of-entries.ensures.1 ∙ records-given id_rules c.args.records.now _ _ e.stop _ (records_say _ _ _ _ _ _ e.stop e.ids_after e.ids_len))
+
 pub returns : goal.returns
 returns c =
-    let a = c.args in
-    let ys = a.records.now in
-    let w = c.write_list.ensures in (
-      w.0 ∙ ap₂ (λ xs n. write id_rules n xs a.ids.now a.images.now (length a.out.now)) c.gather.ensures c.record_count.ensures
-          ∙ write-gathered id_rules ys a.ids.now a.images.now (length a.out.now),
-      w.1 ∙ ap₂ (λ xs n. written_to id_rules n xs a.ids.now a.images.now a.out.now) c.gather.ensures c.record_count.ensures
-          ∙ written-gathered id_rules ys a.ids.now a.images.now a.out.now,
-    )
+    let e = c.in_ok-examine_records.ensures in
+    let j = records_say _ _ _ _ _ _ e.stop e.ids_after e.ids_len in
+    let q = c.entries_of-entries.ensures.1 ∙ records-given id_rules c.args.records.now _ _ e.stop _ j in
+    let w = c.write_entries.ensures in
+    let out = c.args.out.now in
+    record { value = w.value ∙ accepted-answer _ _ _ _ e.stop _ j _ q (length out); out_after = w.out_after ∙ accepted-bytes _ _ _ _ e.stop _ j _ q out }

@@ -1,35 +1,36 @@
 use native.Mathlib.Omega.{arith}
-use mathlib.Core.Path.{◌∙◌}
+use Rattle.std.proofs.lemmas.Result.{err_from_is_err_and}
 use Rattle.offload_binaries.proofs.NextLaws.{call_length, call_end, call_many, call_refused, call_inside, call_good}
 use Rattle.offload_binaries.proofs.next_at.Goals as goal
 
-pub returns-then-s-gt1073741824 : goal.returns-then-s-gt1073741824
-returns-then-s-gt1073741824 c =
+pub returns-then-s-gt-LIMIT : goal.returns-then-s-gt-LIMIT
+returns-then-s-gt-LIMIT c =
     let a = c.args in
-    c.stopped.ensures ∙ call_length a.s.now a.cursor c.if-s-gt1073741824.true
+    call_length a.s.now a.cursor c.if-s-gt-LIMIT.true c.at.result c.at.ensures
 
 pub returns-then-position-s : goal.returns-then-position-s
 returns-then-position-s c =
     let a = c.args in
-    c.stopped-then-position-s.ensures ∙ call_end a.s.now a.cursor c.if-s-gt1073741824.false c.if-position-s.true
+    call_end a.s.now a.cursor c.if-s-gt-LIMIT.false c.if-position-s.true c.at-then-position-s.result c.at-then-position-s.ensures
 
-pub returns-then-taken-ge64 : goal.returns-then-taken-ge64
-returns-then-taken-ge64 c =
+pub returns-then-taken-ge-BINARIES : goal.returns-then-taken-ge-BINARIES
+returns-then-taken-ge-BINARIES c =
     let a = c.args in
-    c.stopped-then-taken-ge64.ensures ∙ call_many a.s.now a.cursor c.if-s-gt1073741824.false c.if-position-s.false c.if-taken-ge64.true
+    call_many a.s.now a.cursor c.if-s-gt-LIMIT.false c.if-position-s.false c.if-taken-ge-BINARIES.true c.at-then-taken-ge-BINARIES.result c.at-then-taken-ge-BINARIES.ensures
 
-pub returns-then-answer-ne0 : goal.returns-then-answer-ne0
-returns-then-answer-ne0 c =
+pub returns-in_err-binary : goal.returns-in_err-binary
+returns-in_err-binary c =
     let a = c.args in
-    call_refused a.s.now a.cursor c.if-s-gt1073741824.false c.if-position-s.false c.if-taken-ge64.false c.binary_at-answer.result c.binary_at-answer.ensures c.if-answer-ne0.true
+    let p = err_from_is_err_and c.from_residual.result c.from_residual.ensures.1 in
+    rw (p.1, p.2) (call_refused a.s.now a.cursor c.if-s-gt-LIMIT.false c.if-position-s.false c.if-taken-ge-BINARIES.false c.in_err-binary.field-0.0 c.in_err-binary.ensures)
 
-pub overflow_add-next : goal.overflow_add-next
-overflow_add-next c =
+pub overflow_add-behind : goal.overflow_add-behind
+overflow_add-behind c =
     let a = c.args in
-    let h = call_inside a.s.now a.cursor c.if-s-gt1073741824.false c.if-position-s.false c.if-taken-ge64.false c.binary_at-answer.result c.binary_at-answer.ensures c.if-answer-ne0.false in
+    let h = call_inside a.s.now a.cursor c.if-s-gt-LIMIT.false c.if-position-s.false c.if-taken-ge-BINARIES.false c.in_ok-binary.binary c.in_ok-binary.ensures in
     omega arith
 
 pub returns : goal.returns
 returns c =
     let a = c.args in
-    call_good a.s.now a.cursor c.if-s-gt1073741824.false c.if-position-s.false c.if-taken-ge64.false c.binary_at-answer.result c.binary_at-answer.ensures c.if-answer-ne0.false
+    call_good a.s.now a.cursor c.if-s-gt-LIMIT.false c.if-position-s.false c.if-taken-ge-BINARIES.false c.in_ok-binary.binary c.in_ok-binary.ensures

@@ -1,44 +1,32 @@
 use native.Mathlib.Omega.{arith}
-use mathlib.Core.Path.{sym, ap, ◌∙◌}
-use lib.ListN.{take, drop}
-use Rattle.offload_binary.specs.Binary.{bytes_at, entry_of}
-use Rattle.offload_binary_reader.proofs.HeadLaws.{image-fits}
-use Rattle.offload_binary_reader.proofs.BodyLaws.{length_o, body_kinds, body_strings, body_image, body_good}
+use Rattle.std.proofs.Common.{sym, ◌∙◌}
+use Rattle.offload_binary_reader.proofs.ReadLaws.{was_none, was_some}
+use Rattle.offload_binary_reader.proofs.BodyLaws.{body_kinds, body_strings, body_image, body_good, image-fits}
 use Rattle.offload_binary_reader.proofs.read_body.Goals as goal
 
 pub returns-then-bad_kinds : goal.returns-then-bad_kinds
-unfolding bytes_at
 returns-then-bad_kinds c =
     let a = c.args in
-    let o = take a.size (drop a.from a.s.now) in
-    let is = c.read_entry-e.ensures ∙ ap (λ x. entry_of x a.entry) c.bytes_at-own.ensures in
-    c.refused.ensures ∙ body_kinds a.from o a.entry c.read_entry-e.result is (sym c.bad_kinds.ensures ∙ c.if-bad_kinds.true)
+    body_kinds a.from a.own.now a.at c.read_entry-entry.result c.read_entry-entry.ensures (sym c.bad_kinds.ensures ∙ c.if-bad_kinds.true) c.at.result c.at.ensures
 
-pub returns-then-strings : goal.returns-then-strings
-unfolding bytes_at
-returns-then-strings c =
+pub returns-in_default : goal.returns-in_default
+returns-in_default c =
     let a = c.args in
-    let o = take a.size (drop a.from a.s.now) in
-    let is = c.read_entry-e.ensures ∙ ap (λ x. entry_of x a.entry) c.bytes_at-own.ensures in
-    c.refused-then-strings.ensures ∙ body_strings a.from o a.entry c.read_entry-e.result is (sym c.bad_kinds.ensures ∙ c.if-bad_kinds.false) c.read_strings-strings.result c.read_strings-strings.ensures c.if-strings.true
+    body_strings a.from a.own.now a.at c.read_entry-entry.result c.read_entry-entry.ensures (sym c.bad_kinds.ensures ∙ c.if-bad_kinds.false) (was_none _ _ _ c.read_strings.ensures c.in_default.is) c.at-in_default.result c.at-in_default.ensures
 
 pub returns-then-bad_image : goal.returns-then-bad_image
-unfolding bytes_at
 returns-then-bad_image c =
     let a = c.args in
-    let o = take a.size (drop a.from a.s.now) in
-    let is = c.read_entry-e.ensures ∙ ap (λ x. entry_of x a.entry) c.bytes_at-own.ensures in
-    c.refused-then-bad_image.ensures ∙ body_image a.from o a.entry c.read_entry-e.result is (sym c.bad_kinds.ensures ∙ c.if-bad_kinds.false) c.read_strings-strings.result c.read_strings-strings.ensures c.if-strings.false a.size (length_o a.s.now a.from a.size c.requires.0) (sym c.bad_image.ensures ∙ c.if-bad_image.true)
+    let r = was_some _ _ _ c.in-Some.pairs c.read_strings.ensures c.in-Some.is in
+    body_image a.from a.own.now a.at c.read_entry-entry.result c.read_entry-entry.ensures (sym c.bad_kinds.ensures ∙ c.if-bad_kinds.false) r.good (sym c.bad_image.ensures ∙ c.if-bad_image.true) c.at-then-bad_image.result c.at-then-bad_image.ensures
 
-pub overflow_add-image_start : goal.overflow_add-image_start
-overflow_add-image_start c =
-    let i = image-fits c.args.size c.read_entry-e.result.image (sym c.bad_image.ensures ∙ c.if-bad_image.false) in
+pub overflow_add-result : goal.overflow_add-result
+overflow_add-result c =
+    let i = image-fits _ c.read_entry-entry.result.image (sym c.bad_image.ensures ∙ c.if-bad_image.false) in
     omega arith
 
 pub returns : goal.returns
-unfolding bytes_at
 returns c =
     let a = c.args in
-    let o = take a.size (drop a.from a.s.now) in
-    let is = c.read_entry-e.ensures ∙ ap (λ x. entry_of x a.entry) c.bytes_at-own.ensures in
-    body_good a.from o a.entry c.read_entry-e.result is (sym c.bad_kinds.ensures ∙ c.if-bad_kinds.false) c.read_strings-strings.result c.read_strings-strings.ensures c.if-strings.false a.size (length_o a.s.now a.from a.size c.requires.0) (sym c.bad_image.ensures ∙ c.if-bad_image.false)
+    let r = was_some _ _ _ c.in-Some.pairs c.read_strings.ensures c.in-Some.is in
+    body_good a.from a.own.now a.at c.read_entry-entry.result c.read_entry-entry.ensures (sym c.bad_kinds.ensures ∙ c.if-bad_kinds.false) r.good (sym c.bad_image.ensures ∙ c.if-bad_image.false) c.in-Some.pairs r.is

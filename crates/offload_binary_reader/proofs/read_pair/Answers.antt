@@ -1,41 +1,26 @@
-use native.Mathlib.Omega.{arith}
-use Rattle.offload_binary_reader.proofs.PairLaws.{key-long, text-long, key-none, key_string, text_string, both_good}
+use Rattle.std.proofs.Common.{refl, ◌∙◌}
+use Rattle.offload_binary_reader.proofs.ReadLaws.{none_is, was_none, was_some, pair_key, pair_text, pair_empty, pair_some}
 use Rattle.offload_binary_reader.proofs.read_pair.Goals as goal
 
-pub returns-then-key_len-gt256 : goal.returns-then-key_len-gt256
-returns-then-key_len-gt256 c =
+pub returns-in_err-key : goal.returns-in_err-key
+returns-in_err-key c =
     let a = c.args in
-    key-long a.from a.o.now a.table a.i c.word8_at-key.result c.word8_at-text.result c.string_len-key_len.result c.string_len-text_len.result
-    c.word8_at-key.ensures c.word8_at-text.ensures c.string_len-key_len.ensures c.string_len-text_len.ensures c.if-key_len-gt256.true
+    c.from_residual.ensures ∙ none_is _ _ (pair_key a.from a.o.now a.table a.i c.word_at.result _ c.word_at.ensures.0 refl (was_none _ _ _ c.read_string.ensures c.in_err-key.was))
 
-pub returns-then-text_len-gt256 : goal.returns-then-text_len-gt256
-returns-then-text_len-gt256 c =
+pub returns-in_err-text : goal.returns-in_err-text
+returns-in_err-text c =
     let a = c.args in
-    text-long a.from a.o.now a.table a.i c.word8_at-key.result c.word8_at-text.result c.string_len-key_len.result c.string_len-text_len.result
-    c.word8_at-key.ensures c.word8_at-text.ensures c.string_len-key_len.ensures c.string_len-text_len.ensures c.if-text_len-gt256.true
+    c.from_residual-in_err-text.ensures ∙ none_is _ _ (pair_text a.from a.o.now a.table a.i c.word_at.result c.word_at-2.result c.word_at.ensures.0 c.word_at-2.ensures.0 (was_none _ _ _ c.read_string-2.ensures c.in_err-text.was))
 
-pub returns-then-key_len-eq0 : goal.returns-then-key_len-eq0
-returns-then-key_len-eq0 c =
+pub returns-then-key-eq0 : goal.returns-then-key-eq0
+returns-then-key-eq0 c =
     let a = c.args in
-    key-none a.from a.o.now a.table a.i c.word8_at-key.result c.word8_at-text.result c.string_len-key_len.result c.string_len-text_len.result
-    c.word8_at-key.ensures c.word8_at-text.ensures c.string_len-key_len.ensures c.string_len-text_len.ensures c.if-key_len-gt256.false c.if-key_len-eq0.true
-
-pub overflow_add-key_start : goal.overflow_add-key_start
-overflow_add-key_start c =
-    let a = c.args in
-    let s = key_string a.from a.o.now a.table a.i c.word8_at-key.result c.word8_at-text.result c.string_len-key_len.result c.string_len-text_len.result
-    c.word8_at-key.ensures c.word8_at-text.ensures c.string_len-key_len.ensures c.string_len-text_len.ensures c.if-key_len-gt256.false in
-    omega (arith, s.inside)
-
-pub overflow_add-text_start : goal.overflow_add-text_start
-overflow_add-text_start c =
-    let a = c.args in
-    let s = text_string a.from a.o.now a.table a.i c.word8_at-key.result c.word8_at-text.result c.string_len-key_len.result c.string_len-text_len.result
-    c.word8_at-key.ensures c.word8_at-text.ensures c.string_len-key_len.ensures c.string_len-text_len.ensures c.if-key_len-gt256.false c.if-text_len-gt256.false in
-    omega (arith, s.inside)
+    let k = was_some _ _ _ c.in_ok-key.key c.read_string.ensures c.in_ok-key.was in
+    none_is _ _ (pair_empty a.from a.o.now a.table a.i c.word_at.result c.word_at-2.result c.word_at.ensures.0 c.word_at-2.ensures.0 c.in_ok-key.key k.is c.if-key-eq0.true)
 
 pub returns : goal.returns
 returns c =
     let a = c.args in
-    both_good a.from a.o.now a.table a.i c.word8_at-key.result c.word8_at-text.result c.string_len-key_len.result c.string_len-text_len.result
-    c.word8_at-key.ensures c.word8_at-text.ensures c.string_len-key_len.ensures c.string_len-text_len.ensures c.if-key_len-gt256.false c.if-text_len-gt256.false c.if-key_len-eq0.false
+    let k = was_some _ _ _ c.in_ok-key.key c.read_string.ensures c.in_ok-key.was in
+    let t = was_some _ _ _ c.in_ok-text.text c.read_string-2.ensures c.in_ok-text.was in
+    pair_some a.from a.o.now a.table a.i c.word_at.result c.word_at-2.result c.word_at.ensures.0 c.word_at-2.ensures.0 k.good t.good c.in_ok-key.key c.in_ok-text.text k.is t.is c.if-key-eq0.false

@@ -1,46 +1,46 @@
 use native.Mathlib.Omega.{arith}
-use mathlib.Core.Path.{sym, ap, ◌∙◌}
-use lib.ListN.{length}
-use Rattle.offload_binary.specs.Binary.{bytes_at}
-use Rattle.offload_binary_reader.specs.Code.{read_pairs}
-use Rattle.offload_binary_reader.proofs.HeadLaws.{table_fits}
-use Rattle.offload_binary_reader.proofs.BodyLaws.{length_o, strings_table, strings_pairs, strings_keys, strings_good}
+use Rattle.std.proofs.Common.{sym, ◌∙◌}
+use lib.Seq.{length-take-le}
+use Rattle.offload_binary_reader.proofs.ReadLaws.{none_is, some_is, was_none, was_some, table_fits}
+use Rattle.offload_binary_reader.proofs.BodyLaws.{strings_table, strings_pairs, pairs_long, strings_keys}
 use Rattle.offload_binary_reader.proofs.read_strings.Goals as goal
 
 pub returns-then-bad_table : goal.returns-then-bad_table
 returns-then-bad_table c =
     let a = c.args in
-    strings_table a.s.now a.from a.size c.requires a.table a.count (sym c.bad_table.ensures ∙ c.if-bad_table.true)
-    c.no_pairs-none.result c.no_pairs-none.ensures
+    none_is _ _ (strings_table a.s.now a.from a.own.now c.requires.0 c.requires.1 a.table a.count (sym c.bad_table.ensures ∙ c.if-bad_table.true))
 
-pub read_pairs-read-requires : goal.read_pairs-read-requires
-unfolding bytes_at
-read_pairs-read-requires c =
+pub read_pairs-requires : goal.read_pairs-requires
+read_pairs-requires c =
     let a = c.args in
-    let f = table_fits a.size a.table a.count (sym c.bad_table.ensures ∙ c.if-bad_table.false) in
-    let long = ap length c.bytes_at-own.ensures ∙ length_o a.s.now a.from a.size c.requires in
-    (omega arith, (f.few, λ h. omega (arith, f.within h)))
+    let f = table_fits _ a.table a.count (sym c.bad_table.ensures ∙ c.if-bad_table.false) in
+    (omega arith, (f.few, f.within))
 
-pub returns-then-read : goal.returns-then-read
-unfolding bytes_at
-returns-then-read c =
+pub returns-in_err-pairs : goal.returns-in_err-pairs
+returns-in_err-pairs c =
     let a = c.args in
-    let r = c.read_pairs-read in
-    strings_pairs a.s.now a.from a.size c.requires a.table a.count (sym c.bad_table.ensures ∙ c.if-bad_table.false) r.result
-    (r.ensures ∙ ap (λ o. read_pairs a.from o a.table a.count) c.bytes_at-own.ensures) c.if-read.true
+    c.from_residual.ensures ∙ none_is _ _ (strings_pairs a.s.now a.from a.own.now c.requires.0 c.requires.1 a.table a.count (was_none _ _ _ c.read_pairs.ensures c.in_err-pairs.was))
 
-pub returns-then-bad_keys : goal.returns-then-bad_keys
-unfolding bytes_at
-returns-then-bad_keys c =
+pub slice_bounds-pairs-end : goal.slice_bounds-pairs-end
+slice_bounds-pairs-end c =
     let a = c.args in
-    let r = c.read_pairs-read in
-    strings_keys a.s.now a.from a.size c.requires a.table a.count (sym c.bad_table.ensures ∙ c.if-bad_table.false) r.result
-    (r.ensures ∙ ap (λ o. read_pairs a.from o a.table a.count) c.bytes_at-own.ensures) c.if-read.false (sym c.bad_keys.ensures ∙ c.if-bad_keys.true) c.no_pairs-none.result c.no_pairs-none.ensures
+    let r = was_some _ _ _ c.in_ok-pairs.pairs c.read_pairs.ensures c.in_ok-pairs.was in
+    pairs_long a.s.now a.from a.own.now c.requires.0 c.requires.1 a.table a.count r.good c.in_ok-pairs.pairs r.is
+
+pub slice_bounds-has_equal_keys-end : goal.slice_bounds-has_equal_keys-end
+slice_bounds-has_equal_keys-end c =
+    let a = c.args in
+    let r = was_some _ _ _ c.in_ok-pairs.pairs c.read_pairs.ensures c.in_ok-pairs.was in
+    sym (length-take-le a.count c.in_ok-pairs.pairs (pairs_long a.s.now a.from a.own.now c.requires.0 c.requires.1 a.table a.count r.good c.in_ok-pairs.pairs r.is))
+
+pub returns-then-has_equal_keys : goal.returns-then-has_equal_keys
+returns-then-has_equal_keys c =
+    let a = c.args in
+    let r = was_some _ _ _ c.in_ok-pairs.pairs c.read_pairs.ensures c.in_ok-pairs.was in
+    none_is _ _ (sym (strings_keys a.s.now a.from a.own.now c.requires.0 c.requires.1 a.table a.count r.good (sym c.bad_table.ensures ∙ c.if-bad_table.false) c.in_ok-pairs.pairs r.is) ∙ sym c.has_equal_keys.ensures ∙ c.if-has_equal_keys.true)
 
 pub returns : goal.returns
-unfolding bytes_at
 returns c =
     let a = c.args in
-    let r = c.read_pairs-read in
-    strings_good a.s.now a.from a.size c.requires a.table a.count (sym c.bad_table.ensures ∙ c.if-bad_table.false) r.result
-    (r.ensures ∙ ap (λ o. read_pairs a.from o a.table a.count) c.bytes_at-own.ensures) c.if-read.false (sym c.bad_keys.ensures ∙ c.if-bad_keys.false)
+    let r = was_some _ _ _ c.in_ok-pairs.pairs c.read_pairs.ensures c.in_ok-pairs.was in
+    some_is _ _ (sym (strings_keys a.s.now a.from a.own.now c.requires.0 c.requires.1 a.table a.count r.good (sym c.bad_table.ensures ∙ c.if-bad_table.false) c.in_ok-pairs.pairs r.is) ∙ sym c.has_equal_keys.ensures ∙ c.if-has_equal_keys.false) _ r.is

@@ -1,32 +1,26 @@
 use native.Mathlib.Omega.{arith}
 use mathlib.Core.Path.{◌∙◌}
 use Rattle.wire.proofs.RowLaws.{added_le, added_length}
-use Rattle.offload_binary_recovery.proofs.WriteLaws.{few, skip_first, skip_inside, skip_next, skip_end}
+use Rattle.offload_binary_recovery.proofs.WriteLaws.{skip_first, skip_inside, skip_next, skip_end}
 use Rattle.offload_binary_recovery.proofs.put_spans.Goals as goal
 
-pub loop-i-init : goal.loop-i-init
-loop-i-init c = skip_first _ _ _ c.requires.2 _ _
-
-pub offset_bounds-list-i : goal.offset_bounds-list-i
-offset_bounds-list-i c = omega (arith, few _ _ _ c.requires.2)
-
-pub bounds-list-i : goal.bounds-list-i
-bounds-list-i c = omega (arith, few _ _ _ c.requires.2)
+pub loop-part-init : goal.loop-part-init
+loop-part-init c = skip_first _ _ c.requires.2 _ _
 
 pub put_gap-k-requires : goal.put_gap-k-requires
-put_gap-k-requires c = let l = c.loop-i in let p = c.requires in (added_le _ _ _ _ _ _ l.invariant.added, p.0, omega (arith, added_length _ _ _ _ _ _ l.invariant.added, p.1))
+put_gap-k-requires c = let l = c.loop-part in let p = c.requires in (added_le _ _ _ _ _ _ l.invariant.added, p.0, omega (arith, added_length _ _ _ _ _ _ l.invariant.added, p.1))
 
 pub overflow_add-cursor : goal.overflow_add-cursor
-overflow_add-cursor c = let l = c.loop-i in let p = c.requires in omega (arith, skip_inside _ _ _ p.2 _ _ p.1 _ _ _ _ l.invariant (omega arith))
+overflow_add-cursor c = let l = c.loop-part in let p = c.requires in omega (arith, skip_inside _ _ p.2 _ _ p.1 _ _ _ _ l.invariant (omega arith))
 
-pub loop-i-preserved : goal.loop-i-preserved
-loop-i-preserved c = let l = c.loop-i in let p = c.requires in skip_next _ _ _ p.2 _ _ p.1 _ _ _ _ l.invariant (omega arith) _ _ c.put_gap-k.ensures
+pub loop-part-preserved : goal.loop-part-preserved
+loop-part-preserved c = let l = c.loop-part in let p = c.requires in skip_next _ _ p.2 _ _ p.1 _ _ _ _ l.invariant (omega arith) _ _ c.put_gap-k.ensures
 
 pub put_gap-requires : goal.put_gap-requires
-put_gap-requires c = let l = c.loop-i in let p = c.requires in (added_le _ _ _ _ _ _ l.invariant.added, p.0, omega (arith, added_length _ _ _ _ _ _ l.invariant.added, p.1))
+put_gap-requires c = let l = c.loop-part in let p = c.requires in (added_le _ _ _ _ _ _ l.invariant.added, p.0, omega (arith, added_length _ _ _ _ _ _ l.invariant.added, p.1))
 
 pub shape_of-spans : goal.shape_of-spans
-shape_of-spans c = added_length _ _ _ _ _ _ c.put_gap.ensures ∙ added_length _ _ _ _ _ _ c.loop-i.invariant.added
+shape_of-spans c = added_length _ _ _ _ _ _ c.put_gap.ensures ∙ added_length _ _ _ _ _ _ c.loop-part.invariant.added
 
 pub returns : goal.returns
-returns c = let l = c.loop-i in let p = c.requires in skip_end _ _ _ p.2 _ _ p.1 _ _ _ _ l.invariant (omega arith) _ _ c.put_gap.ensures
+returns c = let l = c.loop-part in let p = c.requires in skip_end _ _ p.2 _ _ p.1 _ _ _ _ l.invariant (omega arith) _ _ c.put_gap.ensures

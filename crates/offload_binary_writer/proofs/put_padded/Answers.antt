@@ -7,9 +7,6 @@ use Rattle.wire.proofs.OverwriteLaws.{overwrite_then}
 use lib.ListN.{length, replicate, length-replicate}
 use Rattle.offload_binary_writer.proofs.put_padded.Goals as goal
 
-pub put_zeros-requires : goal.put_zeros-requires
-put_zeros-requires c = c.requires.1
-
 pub returns : goal.returns
 returns c =
     let a = c.args in

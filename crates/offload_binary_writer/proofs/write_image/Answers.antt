@@ -10,16 +10,16 @@ use Rattle.offload_binary_writer.specs.Code.{image_bytes}
 use Rattle.offload_binary_writer.proofs.WholeLaws.{up8_top}
 use Rattle.offload_binary_writer.proofs.write_image.Goals as goal
 
-pub overflow_sub-start : goal.overflow_sub-start
-overflow_sub-start c =
+pub overflow_sub-at : goal.overflow_sub-at
+overflow_sub-at c =
     omega (arith, c.requires.0, up8_le c.args.at.end)
 
 pub put_zeros-requires : goal.put_zeros-requires
 put_zeros-requires c =
     omega (arith, c.requires.0, up8_top c.args.at.end)
 
-pub overflow_sub-at : goal.overflow_sub-at
-overflow_sub-at c =
+pub overflow_sub-at-2 : goal.overflow_sub-at-2
+overflow_sub-at-2 c =
     omega (arith, c.requires.1.1.0, up8_le c.args.at.stop)
 
 pub put_padded-requires : goal.put_padded-requires

@@ -10,20 +10,20 @@ pub returns-then-length-gt256 : goal.returns-then-length-gt256
 returns-then-length-gt256 c =
     let a = c.args in
     let q = c.requires in
-    limit-none (renamed a.x.now a.at a.stop a.p.now) a.out.now c.no_form.result (omega (arith, renamed-long a.x.now a.at a.stop a.p.now q.low q.high)) c.no_form.ensures
+    limit-none (renamed a.x.now a.card.at a.card.stop a.p.now) a.out.now (omega (arith, renamed-long a.x.now a.card.at a.card.stop a.p.now q.low q.high))
 
 pub returns-then-out-length : goal.returns-then-out-length
 returns-then-out-length c =
     let a = c.args in
     let q = c.requires in
-    let l = renamed-long a.x.now a.at a.stop a.p.now q.low q.high in
-    limit-short (renamed a.x.now a.at a.stop a.p.now) a.out.now c.no_form-then-out-length.result (omega (arith, l)) (omega (arith, l)) c.no_form-then-out-length.ensures
+    let l = renamed-long a.x.now a.card.at a.card.stop a.p.now q.low q.high in
+    limit-short (renamed a.x.now a.card.at a.card.stop a.p.now) a.out.now (omega (arith, l)) (omega (arith, l))
 
 pub slice_bounds-copy_at-end : goal.slice_bounds-copy_at-end
 slice_bounds-copy_at-end c =
     let a = c.args in
     let q = c.requires in
-    sym (length-take-le a.at a.x.now (omega (arith, q.low, q.high)))
+    sym (length-take-le a.card.at a.x.now (omega (arith, q.low, q.high)))
 
 pub returns : goal.returns
 returns c =
@@ -32,4 +32,4 @@ returns c =
     let first = c.copy_at in
     let second = c.copy_at-2 in
     let third = c.copy_at-3 in
-    renamed-made a.x.now a.kind a.at a.stop a.p.now q a.out.now first.new.out second.new.out third.new.out (omega arith) (omega arith) first.ensures second.ensures third.ensures c.key_behind-key.result c.key_behind-key.ensures
+    renamed-made a.x.now a.card.kind a.card.at a.card.stop a.p.now q a.out.now first.new.out second.new.out third.new.out (omega arith) (omega arith) first.ensures second.ensures third.ensures c.key_behind-key.result c.key_behind-key.ensures

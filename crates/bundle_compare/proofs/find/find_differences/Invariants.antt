@@ -1,12 +1,18 @@
 use Prim.Native.Nat.{◌+◌, ◌-◌}
-use lib.ListN.{length}
-use Rattle.bundle_compare.proofs.FindLaws.{Progress}
+use mathlib.Core.Path.{◌≡◌}
+use mathlib.Core.List.{◌++◌}
+use lib.ListN.{length, take}
+use Rattle.bundle_compare.proofs.FindLaws.{Progress, lefts, rights}
 use Rattle.bundle_compare.proofs.find.find_differences.Given as goal
 
 abbrev pub invariant-loop-i : goal.invariant-loop-i
-invariant-loop-i l =
-    Progress l.left l.right l.left_texts l.right_texts l.left_places l.right_places (length l.initial.found) l.found l.i l.j l.count
+invariant-loop-i l = Progress l.left l.right l.found l.i l.j
 
 abbrev pub decreases-loop-i : goal.decreases-loop-i
-decreases-loop-i l =
-    length l.left_places - l.i + (length l.right_places - l.j)
+decreases-loop-i l = length l.left - l.i + (length l.right - l.j)
+
+abbrev pub invariant-loop-l : goal.invariant-loop-l
+invariant-loop-l l = l.found ≡ l.initial.found ++ lefts (take l.l-index l.l-items)
+
+abbrev pub invariant-loop-r : goal.invariant-loop-r
+invariant-loop-r l = l.found ≡ l.initial.found ++ rights (take l.r-index l.r-items)

@@ -1,17 +1,22 @@
 use native.Mathlib.Omega.{arith}
-use borrow.Author.Tests.{eq-eqb, ne_eqb}
+use mathlib.Core.Path.{ap}
+use lib.ListN.{length}
 use Rattle.bundle_compare.proofs.PutLaws.{put_then, put_same}
-use Rattle.bundle_compare.proofs.TextLaws.{line_both, line-alone, line-short}
+use Rattle.bundle_compare.proofs.TextLaws.{line_images, line_alone}
 use Rattle.bundle_compare.proofs.report.put_line.Goals as goal
 
-pub returns-then-letter-eq-BOTH : goal.returns-then-letter-eq-BOTH
-returns-then-letter-eq-BOTH c =
-    let a = c.args in
-    let p = put_same _ _ _ _ _ _ (line_both a.letter a.id.now a.n (eq-eqb _ _ c.if-letter-eq-BOTH.true)) (put_then _ _ _ _ _ _ _ _ (put_then _ _ _ _ _ _ _ _ c.put-name.ensures c.put-end.ensures) c.put_number.ensures) in
-    (p, omega (arith, p.next_is, line-short a.letter a.id.now a.n c.requires.1 (omega arith)))
+pub returns-in-Images : goal.returns-in-Images
+returns-in-Images c =
+    let head = put_then _ _ _ _ _ _ _ _ c.put-name.ensures c.put-end.ensures in
+    let p = put_then _ _ _ _ _ _ _ _ head c.put_number.ensures.0 in (
+      put_same _ _ _ _ _ _ (line_images c.args.difference _ _ c.in-Images.id c.in-Images.n c.in-Images.is c.letter.ensures c.id.ensures) p,
+      omega (arith, c.put-name.ensures.next_is, c.put-end.ensures.next_is, ap length c.id.ensures, c.requires.0, c.put_number.ensures.1),
+    )
 
 pub returns : goal.returns
 returns c =
-    let a = c.args in
-    let p = put_same _ _ _ _ _ _ (line-alone a.letter a.id.now a.n (ne_eqb _ _ c.if-letter-eq-BOTH.false)) (put_then _ _ _ _ _ _ _ _ (put_then _ _ _ _ _ _ _ _ c.put-name.ensures c.put-end.ensures) c.put.ensures) in
-    (p, omega (arith, p.next_is, line-short a.letter a.id.now a.n c.requires.1 (omega arith)))
+    let head = put_then _ _ _ _ _ _ _ _ c.put-name.ensures c.put-end.ensures in
+    let p = put_then _ _ _ _ _ _ _ _ head c.put.ensures in (
+      put_same _ _ _ _ _ _ (line_alone c.args.difference _ _ c.in_default.not-Images c.letter.ensures c.id.ensures) p,
+      omega (arith, c.put-name.ensures.next_is, c.put-end.ensures.next_is, ap length c.id.ensures, c.requires.0, c.put.ensures.next_is),
+    )

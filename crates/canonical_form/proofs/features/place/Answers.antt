@@ -1,86 +1,55 @@
-use Rattle.std.proofs.Common.{◌+◌, T, get_or, sym, refl, ◌∙◌, subst, arith, length-set, eqb-true}
-use Rattle.canonical_form.proofs.OrderLaws.{place-stop, place_end, place_step, new_before, new_same, new_none, new_step, rising_step}
+use Rattle.std.proofs.Common.{take, sym, refl, ap, ◌∙◌, arith, length-set, eqb-true, take-append-drop, ◌++◌}
+use Rattle.canonical_form.proofs.OrderLaws.{every_at, placed_here, placed_step, placed_last, new_before, new_same, new_step, new_last, rising_step, good_step}
 use Rattle.canonical_form.proofs.features.place.Goals as goal
 
 pub loop-i-init : goal.loop-i-init
-loop-i-init c = let p = c.requires in (p.0, (omega arith, (omega (arith, p.1.0, p.1.1.0), (refl, (p.1.1.0, (refl, (refl, (p.1.1.1, λ e. refl))))))))
+loop-i-init c = let q = c.requires in record { size = refl; all_good = q.1; made = refl; fresh = refl; rises = q.2; kept = λ e. refl }
 
-pub shape_of-t-then-o : goal.shape_of-t-then-o
-shape_of-t-then-o c = c.loop-i.invariant.1.1.1.0
+pub name-requires : goal.name-requires
+name-requires c = every_at _ _ _ _ (omega arith) c.loop-i.invariant.all_good
 
-pub returns-then-o : goal.returns-then-o
-returns-then-o c =
-    let a = c.args in
+pub name-requires-in-loop-i : goal.name-requires-in-loop-i
+name-requires-in-loop-i c = every_at _ _ _ _ (omega arith) c.loop-i.invariant.all_good
+
+pub returns-in-Less : goal.returns-in-Less
+returns-in-Less c =
+    let x = c.args.id.now in
     let l = c.loop-i in
-    let b = rw (c.name.ensures, c.name-in-loop-i.ensures) at c.compared-o.ensures in
-    let v = l.invariant.1.1.1.1.1 in
-    let e = sym b.0 ∙ c.if-o.true in
+    let v = l.invariant in
+    let b = rw (c.name.ensures, c.name-in-loop-i.ensures) at c.in-Less.ensures in
     record {
-      size = omega arith;
-      fresh = sym (sym v.1.0 ∙ new_before a.id.now l.t a.n l.i (omega arith) (omega arith) v.1.1.0 e);
-      made = λ z. sym (place-stop a.id.now l.t a.n l.i (omega arith) (omega arith) e) ∙ v.0;
-      kept = λ z. v.1.1.1 (eqb-true l.i a.k z);
+      fresh = new_before x l.spans l.i _ (omega arith) v.rises (sym b.0) ∙ v.fresh;
+      made = (sym (take-append-drop l.i l.spans) ∙ ap (λ r. take l.i l.spans ++ r) (placed_here x l.spans l.i _ (omega arith) (sym b.0)) ∙ v.made, λ z. v.kept (eqb-true l.i 0 z));
     }
 
-pub shape_of-t-then-o-2 : goal.shape_of-t-then-o-2
-shape_of-t-then-o-2 c = c.loop-i.invariant.1.1.1.0
-
-pub returns-then-o-2 : goal.returns-then-o-2
-returns-then-o-2 c =
-    let a = c.args in
+pub returns-in-Equal : goal.returns-in-Equal
+returns-in-Equal c =
+    let x = c.args.id.now in
     let l = c.loop-i in
-    let b = rw (c.name.ensures, c.name-in-loop-i.ensures) at c.compared-o.ensures in
-    let v = l.invariant.1.1.1.1.1 in
-    record {
-      size = omega arith;
-      fresh = sym (sym v.1.0 ∙ new_same a.id.now l.t a.n l.i (omega arith) (omega arith) (sym b.1 ∙ c.if-o-2.true));
-      made = λ z. absurd (subst T (sym z) tt);
-      kept = λ z. absurd (subst T (sym z) tt);
-    }
-
-pub bounds-t-i-in-loop-i-3 : goal.bounds-t-i-in-loop-i-3
-bounds-t-i-in-loop-i-3 c = let l = c.loop-i in omega (arith, length-set l.t l.i (get_or l.t (l.i + 1) 0))
+    let b = rw (c.name.ensures, c.name-in-loop-i.ensures) at c.in-Equal.ensures in
+    record { fresh = new_same x l.spans l.i _ (omega arith) (sym b.1) ∙ l.invariant.fresh; made = tt }
 
 pub loop-i-preserved : goal.loop-i-preserved
 loop-i-preserved c =
-    let a = c.args in
+    let x = c.args.id.now in
     let l = c.loop-i in
-    let b = rw (c.name.ensures, c.name-in-loop-i.ensures) at c.compared-o.ensures in
-    let v = l.invariant.1.1.1.1.1 in
-    let x = a.id.now in (
-      omega arith,
-      (
-        omega arith,
-        (
-          l.invariant.1.1.0,
-          (
-            simp length-set l.invariant.1.1.1.0,
-            (
-              l.invariant.1.1.1.1.0,
-              (
-                place_step x l.t a.n l.i (omega arith) (omega arith) (sym b.0 ∙ c.if-o.false) ∙ v.0,
-                (
-                  new_step x l.t a.n l.i (omega arith) (omega arith) (sym b.1 ∙ c.if-o-2.false) ∙ v.1.0,
-                  (rising_step x l.t a.n l.i (omega arith) (omega arith) v.1.1.0, λ z. absurd (omega arith)),
-                ),
-              ),
-            ),
-          ),
-        ),
-      ),
-    )
-
-pub shape_of-t : goal.shape_of-t
-shape_of-t c = c.loop-i.invariant.1.1.1.0
+    let v = l.invariant in
+    let b = rw (c.name.ensures, c.name-in-loop-i.ensures) at c.in-Greater.ensures in
+    record {
+      size = simp length-set v.size;
+      all_good = good_step x l.spans l.i _ (omega arith) v.all_good;
+      made = placed_step x l.spans l.i _ (omega arith) (sym b.0) ∙ v.made;
+      fresh = new_step x l.spans l.i _ (omega arith) (sym b.1) ∙ v.fresh;
+      rises = rising_step x l.spans l.i _ (omega arith) v.rises;
+      kept = λ z. absurd (omega arith);
+    }
 
 pub returns : goal.returns
 returns c =
-    let a = c.args in
+    let x = c.args.id.now in
     let l = c.loop-i in
-    let v = l.invariant.1.1.1.1.1 in
+    let v = l.invariant in
     record {
-      size = omega arith;
-      fresh = sym (sym v.1.0 ∙ new_none a.id.now l.t a.n l.i (omega arith) (omega arith));
-      made = λ z. sym (place_end a.id.now l.t a.n l.i (omega arith) (omega arith) (omega arith)) ∙ v.0;
-      kept = λ z. v.1.1.1 (eqb-true l.i a.k z);
+      fresh = new_last x l.spans l.i (record { at = 0; sign = 0 }) (omega arith) (omega arith) ∙ v.fresh;
+      made = (sym (take-append-drop l.i l.spans) ∙ ap (λ r. take l.i l.spans ++ r) (placed_last x l.spans l.i (record { at = 0; sign = 0 }) (omega arith) (omega arith)) ∙ v.made, λ z. v.kept (let q = eqb-true _ 1 z in omega arith));
     }

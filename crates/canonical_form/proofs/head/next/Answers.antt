@@ -8,10 +8,7 @@ use Rattle.canonical_form.proofs.head.next.Goals as goal
 pub returns-then-byte-ne45 : goal.returns-then-byte-ne45
 returns-then-byte-ne45 c =
     let a = c.args in
-    record {
-      found = λ h. absurd (omega arith);
-      missing = λ z s k r. next_no_dash a.id.now s a.a k r (λ e. c.if-byte-ne45.true (c.byte.ensures ∙ e));
-    }
+    λ s k r. next_no_dash a.id.now s a.a k r (λ e. c.if-byte-ne45.true (c.byte.ensures ∙ e))
 
 pub overflow_add-a : goal.overflow_add-a
 overflow_add-a c =
@@ -31,14 +28,10 @@ returns-then-r-a c =
     let r : Run field_byte a.id.now (a.a + 1) c.field_end-r.result = c.field_end-r.ensures in
     let q : c.field_end-r.result ≡ suc a.a = omega arith in
     let r' : Run field_byte a.id.now (suc a.a) (suc a.a) = rw (add-one a.a, q) at r in
-    record { found = λ h. absurd (omega arith); missing = λ z s k h. next-empty a.id.now s a.a k h r' }
+    λ s k h. next-empty a.id.now s a.a k h r'
 
 pub returns : goal.returns
 returns c =
     let a = c.args in
     let r : Run field_byte a.id.now (a.a + 1) c.field_end-r.result = c.field_end-r.ensures in
-    let r' : Run field_byte a.id.now (suc a.a) c.field_end-r.result = rw (add-one a.a) at r in
-    record {
-      found = λ h. record { dash = sym c.byte.ensures ∙ c.if-byte-ne45.false; run = r'; some = omega arith };
-      missing = λ z s k h. absurd (omega arith);
-    }
+    record { dash = sym c.byte.ensures ∙ c.if-byte-ne45.false; run = rw (add-one a.a) at r; some = omega arith }

@@ -29,16 +29,10 @@ head c h = head_run _ _ _ h.low h.high h.passed (sym c.ends-2.ensures ∙ c.if-n
 pub returns-then-ends : goal.returns-then-ends
 returns-then-ends c =
     let f = c.requires.1 in
-    record {
-      found = λ k. record {
-        run = head_run _ _ _ f.low f.high (as_processor _ f.passed) (sym c.ends.ensures ∙ c.if-ends.true);
-        shaped = field-shaped _ f.passed;
-      };
-      missing = λ z. absurd (omega (arith, f.low, c.requires.0));
-    }
+    record { run = head_run _ _ _ f.low f.high (as_processor _ f.passed) (sym c.ends.ensures ∙ c.if-ends.true); shaped = field-shaped _ f.passed }
 
 pub returns-then-not-ends : goal.returns-then-not-ends
-returns-then-not-ends c = record { found = λ k. absurd (omega arith); missing = λ z. processor_stops _ _ _ (run (goal.at.returns-then-not-ends c).After-processor_end-r) (sym c.ends-2.ensures ∙ c.if-not-ends.true) }
+returns-then-not-ends c = processor_stops _ _ _ (run (goal.at.returns-then-not-ends c).After-processor_end-r) (sym c.ends-2.ensures ∙ c.if-not-ends.true)
 
 pub bounds-id-a : goal.bounds-id-a
 bounds-id-a c = let h = run (goal.at.bounds-id-a c).After-processor_end-r in omega (arith, h.high, more (goal.at.bounds-id-a c).Else-not-ends, c.requires.1.low)
@@ -51,14 +45,12 @@ bounds-id-r c = let h = run (goal.at.bounds-id-r c).After-processor_end-r in ome
 
 pub returns-then-id-a : goal.returns-then-id-a
 returns-then-id-a c =
-    record {
-      found = λ k. absurd (omega arith);
-      missing = λ z. ap processor_shaped (head_part _ _ _ (head (goal.at.returns-then-id-a c).Else-not-ends (run (goal.at.returns-then-id-a c).After-processor_end-r))) ∙ processor_ends _ _ _ (run (goal.at.returns-then-id-a c).After-processor_end-r) (omega (arith, more (goal.at.returns-then-id-a c).Else-not-ends, c.requires.1.low)) ∙ ap not c.if-id-a.true;
-    }
+    let r = run (goal.at.returns-then-id-a c).After-processor_end-r in
+    let s = (goal.at.returns-then-id-a c).Else-not-ends in
+    ap processor_shaped (head_part _ _ _ (head s r)) ∙ processor_ends _ _ _ r (omega (arith, more s, c.requires.1.low)) ∙ ap not c.if-id-a.true
 
 pub returns : goal.returns
 returns c =
-    record {
-      found = λ k. record { run = head (goal.at.returns c).Else-not-ends (run (goal.at.returns c).After-processor_end-r); shaped = of_true _ (processor_ends _ _ _ (run (goal.at.returns c).After-processor_end-r) (omega (arith, more (goal.at.returns c).Else-not-ends, c.requires.1.low)) ∙ ap not c.if-id-a.false) };
-      missing = λ z. absurd (omega (arith, more (goal.at.returns c).Else-not-ends));
-    }
+    let r = run (goal.at.returns c).After-processor_end-r in
+    let s = (goal.at.returns c).Else-not-ends in
+    record { run = head s r; shaped = of_true _ (processor_ends _ _ _ r (omega (arith, more s, c.requires.1.low)) ∙ ap not c.if-id-a.false) }

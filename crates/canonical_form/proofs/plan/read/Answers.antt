@@ -1,93 +1,43 @@
-use Rattle.std.proofs.Common.{◌+◌, ◌≤◌, ◌++◌, length, sym, ap, ◌∙◌, arith}
-use borrow.Author.Tests.{not-true, not-false}
+use Rattle.std.proofs.Common.{◌≡◌, ◌++◌, take, drop, take_at, length-take-le, sym, ap, ◌∙◌, arith}
+use Rattle.wire.specs.Lists.{every}
 use Rattle.canonical_form.specs.Spans.{chunks, head_text}
-use Rattle.canonical_form.proofs.PlanLaws.{plan_no, long-refused, pieces_refused, length-refused, order_refused, proc_refused, plan_yes, text_is, text_tidy}
+use Rattle.canonical_form.proofs.PlanLaws.{long-refused, pieces_refused, length-refused, order_refused, proc_refused, plan_yes, text_is, text_tidy, sorted_good}
 use Rattle.canonical_form.proofs.plan.read.Goals as goal
 
 pub returns-then-id-gt256 : goal.returns-then-id-gt256
-returns-then-id-gt256 c = plan_no (long-refused c.args.id.now (omega arith)) c.no_plan.ensures
+returns-then-id-gt256 c = long-refused c.args.id.now (omega arith)
 
-pub returns-then-not-h : goal.returns-then-not-h
-returns-then-not-h c = plan_no (c.read_head-h.ensures.refused (not-true _ c.if-not-h.true)) c.no_plan-then-not-h.ensures
+pub returns-in_err-count : goal.returns-in_err-count
+returns-in_err-count c = rw c.from_residual-in_err-count.ensures (pieces_refused _ _ c.in_ok-head.ensures c.in_err-count.ensures)
 
-pub read_pieces-t-requires : goal.read_pieces-t-requires
-read_pieces-t-requires c =
-    let hd = c.read_head-h.ensures.found (not-false _ c.if-not-h.false) in
-    (omega arith, (c.requires, (hd.within, hd.ends)))
+pub returns-then-count-head : goal.returns-then-count-head
+returns-then-count-head c = proc_refused _ _ c.in_ok-head.ensures _ _ c.in_ok-count.ensures c.if-count-head.true
 
-pub returns-then-not-t : goal.returns-then-not-t
-returns-then-not-t c =
-    let x = c.args.id.now in
-    let h = c.read_head-h.result in
-    let hd = c.read_head-h.ensures.found (not-false _ c.if-not-h.false) in
-    plan_no (pieces_refused x h.at h.dashes h.stop h.proc hd (c.read_pieces-t.ensures.refused (not-true _ c.if-not-t.true))) c.no_plan-then-not-t.ensures
+pub returns-then-head-id : goal.returns-then-head-id
+returns-then-head-id c = let h = c.in_ok-head.ensures in length-refused _ _ h _ _ c.in_ok-count.ensures (omega (arith, h.few, c.if-head-id.true))
 
-pub returns-then-n-proc : goal.returns-then-n-proc
-returns-then-n-proc c =
-    let x = c.args.id.now in
-    let h = c.read_head-h.result in
-    let hd = c.read_head-h.ensures.found (not-false _ c.if-not-h.false) in
-    let p = c.read_pieces-t.result in
-    let t = c.read_pieces-t.new.spans in
-    let pc = c.read_pieces-t.ensures.found (not-false _ c.if-not-t.false) in
-    plan_no (proc_refused x h.at h.dashes h.stop h.proc hd p.n t pc c.if-n-proc.true) c.no_plan-then-n-proc.ensures
+pub sort-requires : goal.sort-requires
+sort-requires c = c.in_ok-count.ensures.all_good
 
-pub overflow_sub-dashes : goal.overflow_sub-dashes
-overflow_sub-dashes c =
-    let x = c.args.id.now in
-    let h = c.read_head-h.result in
-    let hd = c.read_head-h.ensures.found (not-false _ c.if-not-h.false) in
-    omega (arith, hd.few)
+pub returns-in_err-tidy : goal.returns-in_err-tidy
+returns-in_err-tidy c = rw c.from_residual-in_err-tidy.ensures (order_refused _ _ c.in_ok-head.ensures _ _ c.in_ok-count.ensures (sym c.in_err-tidy.ensures.apart))
 
-pub returns-then-dashes-id : goal.returns-then-dashes-id
-returns-then-dashes-id c =
-    let x = c.args.id.now in
-    let h = c.read_head-h.result in
-    let hd = c.read_head-h.ensures.found (not-false _ c.if-not-h.false) in
-    let p = c.read_pieces-t.result in
-    let t = c.read_pieces-t.new.spans in
-    let pc = c.read_pieces-t.ensures.found (not-false _ c.if-not-t.false) in
-    plan_no (length-refused x h.at h.dashes h.stop h.proc hd p.n t pc (omega (arith, hd.few, c.if-dashes-id.true))) c.no_plan-then-dashes-id.ensures
-
-pub sort-o-requires : goal.sort-o-requires
-sort-o-requires c =
-    let pc = c.read_pieces-t.ensures.found (not-false _ c.if-not-t.false) in
-    (pc.few, pc.size)
-
-pub returns-then-not-o : goal.returns-then-not-o
-returns-then-not-o c =
-    let x = c.args.id.now in
-    let h = c.read_head-h.result in
-    let hd = c.read_head-h.ensures.found (not-false _ c.if-not-h.false) in
-    let p = c.read_pieces-t.result in
-    let t = c.read_pieces-t.new.spans in
-    let pc = c.read_pieces-t.ensures.found (not-false _ c.if-not-t.false) in
-    plan_no (order_refused x h.at h.dashes h.stop h.proc hd p.n t pc (sym c.sort-o.ensures.apart ∙ not-true _ c.if-not-o.true)) c.no_plan-then-not-o.ensures
-
-pub returns-then-o : goal.returns-then-o
-returns-then-o c =
-    let x = c.args.id.now in
-    let h = c.read_head-h.result in
-    let hd = c.read_head-h.ensures.found (not-false _ c.if-not-h.false) in
-    let p = c.read_pieces-t.result in
-    let t = c.read_pieces-t.new.spans in
-    let pc = c.read_pieces-t.ensures.found (not-false _ c.if-not-t.false) in
-    let o = c.sort-o.ensures in
-    let ok = not-false _ c.if-not-o.false in
-    let short : length x + h.dashes ≤ 256 = omega (arith, hd.few, c.if-dashes-id.false) in
-    plan_yes x h.at h.dashes h.stop h.proc hd p.n t pc short c.if-n-proc.false (sym o.apart ∙ ok) (length x) 0 c.sort-o.new.t hd.within (omega arith) (omega arith) o.size
-    (text_tidy x h.at h.dashes h.stop h.proc hd p.n t pc c.sort-o.new.t (o.made ok) (o.kept c.if-o.true))
+pub returns-then-tidy : goal.returns-then-tidy
+unfolding every
+returns-then-tidy c =
+    let h = c.in_ok-head.ensures in
+    let o = c.in_ok-tidy.ensures in
+    plan_yes _ _ h _ _ c.in_ok-count.ensures (omega (arith, h.few, c.if-head-id.false)) c.if-count-head.false (sym o.apart) _ 0 _ h.within (omega arith) (omega arith) tt
+    (text_tidy _ _ h _ _ c.in_ok-count.ensures c.sort.new.spans o.made.0 (o.made.1 c.if-tidy.true))
 
 pub returns : goal.returns
 returns c =
     let x = c.args.id.now in
-    let h = c.read_head-h.result in
-    let hd = c.read_head-h.ensures.found (not-false _ c.if-not-h.false) in
-    let p = c.read_pieces-t.result in
-    let t = c.read_pieces-t.new.spans in
-    let pc = c.read_pieces-t.ensures.found (not-false _ c.if-not-t.false) in
-    let o = c.sort-o.ensures in
-    let ok = not-false _ c.if-not-o.false in
-    let short : length x + h.dashes ≤ 256 = omega (arith, hd.few, c.if-dashes-id.false) in
-    plan_yes x h.at h.dashes h.stop h.proc hd p.n t pc short c.if-n-proc.false (sym o.apart ∙ ok) h.stop p.n c.sort-o.new.t (omega arith) hd.within pc.few o.size
-    (text_is x h.at h.dashes h.stop h.proc hd p.n t pc ∙ ap (λ l. head_text x h.at h.dashes h.stop ++ chunks x l) (sym (o.made ok)))
+    let hd = c.in_ok-head.head in
+    let h = c.in_ok-head.ensures in
+    let p = c.in_ok-count.ensures in
+    let o = c.in_ok-tidy.ensures in
+    let u = c.sort.new.spans in
+    let e : take c.in_ok-count.count (u ++ drop c.in_ok-count.count c.read_pieces.new.spans) ≡ u = take_at u _ c.in_ok-count.count (c.sort.auto.spans ∙ length-take-le _ _ (omega (arith, p.few, p.size))) in
+    plan_yes x hd h _ _ p (omega (arith, h.few, c.if-head-id.false)) c.if-count-head.false (sym o.apart) _ _ _ (omega arith) h.within p.few (rw (e, o.made.0) (sorted_good x hd h _ _ p))
+    (text_is x hd h _ _ p ∙ ap (λ l. head_text x hd.at hd.dashes hd.stop ++ chunks x l) (sym (e ∙ o.made.0)))

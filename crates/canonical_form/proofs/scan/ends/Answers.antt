@@ -1,11 +1,11 @@
 use Rattle.entry_id.specs.Scan.{ends_at}
-use Rattle.std.proofs.Common.{le-ltb, lt-ltb}
+use Rattle.std.proofs.Common.{eqb, sym, ap, arith}
 use Rattle.canonical_form.proofs.scan.ends.Goals as goal
 
-pub returns-then-i-id : goal.returns-then-i-id
+pub returns-in-Some : goal.returns-in-Some
 unfolding ends_at
-returns-then-i-id c = rw (lt-ltb _ _ c.if-i-id.true)
+returns-in-Some c = let k = c.in-Some.ensures.lookup in rw (sym k.0) (ap (λ b. eqb b 58) (k.4 (omega arith) 0))
 
-pub returns-else-i-id : goal.returns-else-i-id
+pub returns-in-None : goal.returns-in-None
 unfolding ends_at
-returns-else-i-id c = rw (le-ltb _ _ c.if-i-id.false)
+returns-in-None c = rw (sym c.in-None.ensures.lookup.0)

@@ -1,12 +1,8 @@
-use Rattle.std.proofs.Common.{◌-◌, ◌≤◌, T, length}
+use Rattle.std.proofs.Common.{◌≡◌, ℕ, Bool, T}
 use Rattle.wire.specs.Lists.{every}
 use Rattle.entry_id.specs.Scan.{part}
-use Rattle.canonical_form.specs.Heads.{in_class}
 use Rattle.canonical_form.proofs.scan.run_end.Given as goal
 
--- `canonical_form::run_end` meets its contract. The loop's invariant: every byte so far passes. Assumes nothing.
+-- Every byte so far is of the class.
 abbrev pub invariant-loop-i : goal.invariant-loop-i
-invariant-loop-i l = (l.from ≤ l.i) × ((l.i ≤ length l.x) × T (every (in_class l.class) (part l.x l.from l.i)))
-
-abbrev pub decreases-loop-i : goal.decreases-loop-i
-decreases-loop-i l = length l.x - l.i
+invariant-loop-i g l = (class : ℕ → Bool) → ((b : ℕ) (r : Bool) → goal.F-post g l.in_class b r → r ≡ class b) → T (every class (part l.x l.from l.i))

@@ -15,8 +15,8 @@ loop-at-init c = refl
 pub returns-then-not-supported_piece : goal.returns-then-not-supported_piece
 unfolding part
 returns-then-not-supported_piece c = let x = c.args.x.now in
-    let s = c.args.sramecc in
-    let y = c.args.xnack in
+    let s = c.args.marks.sramecc in
+    let y = c.args.marks.xnack in
     let l = c.loop-at in
     let e = c.seek-e.result in
     let n = every-next (λ p. supported s y (feature p)) x l.at e (omega arith) c.seek-e.ensures in
@@ -26,8 +26,8 @@ returns-then-not-supported_piece c = let x = c.args.x.now in
 pub loop-at-preserved : goal.loop-at-preserved
 unfolding part
 loop-at-preserved c = let x = c.args.x.now in
-    let s = c.args.sramecc in
-    let y = c.args.xnack in
+    let s = c.args.marks.sramecc in
+    let y = c.args.marks.xnack in
     let l = c.loop-at in
     let e = c.seek-e.result in
     let n = every-next (λ p. supported s y (feature p)) x l.at e (omega arith) c.seek-e.ensures in
@@ -37,4 +37,4 @@ loop-at-preserved c = let x = c.args.x.now in
 pub returns : goal.returns
 returns c = let a = c.args in
     let l = c.loop-at in
-    sym (l.invariant ∙ every_end (λ p. supported a.sramecc a.xnack (feature p)) a.x.now l.at (omega arith))
+    sym (l.invariant ∙ every_end (λ p. supported a.marks.sramecc a.marks.xnack (feature p)) a.x.now l.at (omega arith))

@@ -9,7 +9,7 @@ use Rattle.profile_form.proofs.parts.all_supported.Given as goal
 
 -- `profile_form::all_supported` meets its contract. The loop's invariant: the pieces that are left decide. Assumes nothing.
 abbrev pub invariant-loop-at : goal.invariant-loop-at
-invariant-loop-at l = every (λ p. supported l.sramecc l.xnack (feature p)) (pieces_at l.x l.stop) ≡ every (λ p. supported l.sramecc l.xnack (feature p)) (pieces_at l.x l.at)
+invariant-loop-at l = every (λ p. supported l.marks.sramecc l.marks.xnack (feature p)) (pieces_at l.x l.stop) ≡ every (λ p. supported l.marks.sramecc l.marks.xnack (feature p)) (pieces_at l.x l.at)
 
 abbrev pub decreases-loop-at : goal.decreases-loop-at
 decreases-loop-at l = length l.x - l.at

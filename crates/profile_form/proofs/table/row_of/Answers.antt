@@ -9,7 +9,7 @@ use Rattle.wire.specs.Lists.{tab}
 use Rattle.wire.specs.Word.{word, word_of}
 use Rattle.entry_id.specs.Canonical.{head_number}
 use Rattle.entry_id.specs.Processors.{processors, names}
-use Rattle.profile_form.specs.Table.{mark, row_for, rows_for, rows_from, table, name_at, slot_of, placed, slots}
+use Rattle.profile_form.specs.Table.{row_for, rows_for, rows_from, table, name_at, slot_of, placed, slots}
 use Rattle.profile_form.proofs.TableLaws.{slot-below, slot_in, row-found, row-none}
 use Rattle.profile_form.proofs.table.row_of.Goals as goal
 
@@ -29,23 +29,23 @@ pub bounds-slots-slot_of : goal.bounds-slots-slot_of
 bounds-slots-slot_of c = omega (arith, c.slot_of.ensures, slot_in c.args.w.now)
 
 pub overflow_cast-k : goal.overflow_cast-k
-unfolding slots placed tab slot_of head_number word word_of name_at table rows_from rows_for row_for mark processors names
+unfolding slots placed tab slot_of head_number word word_of name_at table rows_from rows_for row_for processors names
 overflow_cast-k c = record { fits = omega (arith, below c.args.w.now _ refl c.slot_of.result c.slot_of.ensures) }
 
 pub name_at-requires : goal.name_at-requires
-unfolding slots placed tab slot_of head_number word word_of name_at table rows_from rows_for row_for mark processors names
+unfolding slots placed tab slot_of head_number word word_of name_at table rows_from rows_for row_for processors names
 name_at-requires c = (c.requires, below c.args.w.now _ refl c.slot_of.result c.slot_of.ensures)
 
 pub returns-then-same_bytes : goal.returns-then-same_bytes
-unfolding slots placed tab slot_of head_number word word_of name_at table rows_from rows_for row_for mark processors names
+unfolding slots placed tab slot_of head_number word word_of name_at table rows_from rows_for row_for processors names
 returns-then-same_bytes c =
     let w = c.args.w.now in
     let s = c.slot_of in
-    read w _ refl s.result s.ensures ∙ row-found w (sym (found w _ refl s.result s.ensures c.same_bytes.result _ c.name_at.ensures c.same_bytes.ensures) ∙ c.if-same_bytes.true)
+    (sym (read w _ refl s.result s.ensures ∙ row-found w (sym (found w _ refl s.result s.ensures c.same_bytes.result _ c.name_at.ensures c.same_bytes.ensures) ∙ c.if-same_bytes.true)), below w _ refl s.result s.ensures)
 
 pub returns : goal.returns
-unfolding slots placed tab slot_of head_number word word_of name_at table rows_from rows_for row_for mark processors names
+unfolding slots placed tab slot_of head_number word word_of name_at table rows_from rows_for row_for processors names
 returns c =
     let w = c.args.w.now in
     let s = c.slot_of in
-    row-none w (sym (found w _ refl s.result s.ensures c.same_bytes.result _ c.name_at.ensures c.same_bytes.ensures) ∙ c.if-same_bytes.false)
+    sym (row-none w (sym (found w _ refl s.result s.ensures c.same_bytes.result _ c.name_at.ensures c.same_bytes.ensures) ∙ c.if-same_bytes.false))

@@ -3,6 +3,6 @@ use Rattle.std.proofs.Common.{refl}
 use Rattle.selftest_binaries.proofs.Computing as computing
 use Rattle.selftest_binaries.proofs.binary_writer.too_many.Goals as goal
 
-pub expect_array-requires : goal.expect_array-requires
+pub expect_listed-requires-clause-gives : goal.expect_listed-requires-clause-gives
 unfolding computing.binaries
-expect_array-requires c = refl
+expect_listed-requires-clause-gives c = refl

@@ -1,7 +1,0 @@
-use mathlib.Core.Path.{refl}
-use Rattle.bundle.specs.Check.{share_byte, same_span, overlaps}
-use Rattle.bundle_reader.proofs.overlap.Goals as goal
-
-pub returns : goal.returns
-unfolding overlaps share_byte same_span
-returns c = refl
