@@ -39,7 +39,7 @@ named_number (Some source) = source_number source
 named_number None = 0
 
 abbrev pub found_of : Result SourceImage LookupRefusal → Found
-found_of (Ok f) = record { number = 0; place = 0; bundle = source_number f.source; position = f.image.position; size = f.image.size }
+found_of (Ok f) = record { number = 0; place = 0; bundle = source_number f.source; position = f.position; size = f.size }
 found_of (Err r) = record { number = number_of r.refusal.reason; place = r.refusal.place; bundle = named_number r.source; position = 0; size = 0 }
 
 abbrev pub located_of : Result EntryRecord Refusal → Located

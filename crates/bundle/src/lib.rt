@@ -65,11 +65,12 @@ impl Source {
     }
 }
 
-// The image that a lookup finds, and the bundle that holds it.
+// The image that a lookup finds: the bundle that holds it, its position there and its size.
 #[derive(Clone, Copy)]
 pub struct SourceImage {
     pub source: Source,
-    pub image: Image,
+    pub position: usize,
+    pub size: usize,
 }
 
 // A refusal of a lookup, and the bundle that the check refuses: QUERY and NONE concern none.
@@ -214,8 +215,8 @@ impl From<Result<SourceImage, LookupRefusal>> for Found {
                 number: 0,
                 place: 0,
                 bundle: found.source.number(),
-                position: found.image.position as u64,
-                size: found.image.size as u64,
+                position: found.position as u64,
+                size: found.size as u64,
             },
             Err(refused) => Found {
                 number: refused.refusal.reason.number(),

@@ -1,53 +1,75 @@
 -- A bundle that is read to be compared. Assumes nothing.
 use Prim.Native.Nat.{ℕ, ◌≤◌}
+use native.Mathlib.Omega.{arith}
 use mathlib.Core.Path.{◌≡◌, sym, ap, ◌∙◌}
 use mathlib.Core.List.{List}
 use lib.Dec.{T}
-use lib.ListN.{length, take}
+use lib.ListN.{length, take, length-take}
 use Rattle.wire.specs.Order.{sort_by, rising_by}
-use Rattle.wire.specs.Stop.{Stop}
+use Rattle.wire.specs.Stop.{Stop, over}
 use Rattle.wire.proofs.SortLaws.{distinct-rising}
-use Rattle.std.proofs.Common.{Result, Ok, Err}
-use Rattle.std.specs.Result.{IfOk}
-use Rattle.wire.specs.Refusals.{stop_of}
+use Rattle.std.specs.Prelude.{Result, Ok, IfOk}
+use Rattle.wire.specs.Refusals.{number_of, stop_by, stop_of}
 use Rattle.wire.specs.declared.Refusal.{Refusal}
 use Rattle.entry_id.specs.Rules.{id_rules, rules_of}
 use Rattle.entry_id.specs.declared.Reading.TheVariants.{General}
 use Rattle.entry_id.proofs.RuleLaws.{id_rules_lawful}
 use Rattle.bundle.specs.Check.{bundle_stop}
-use Rattle.bundle.specs.Entry.{entries}
+use Rattle.bundle.specs.Entry.{Entry, entries}
 use Rattle.bundle.specs.Normal.{by_id}
 use Rattle.bundle.proofs.NormalLaws.{accepted_writable}
-use Rattle.bundle.proofs.ReportLaws.{short-number}
+use Rattle.bundle.proofs.ReportLaws.{short-number, input_accepted}
 use Rattle.bundle.specs.Table.{count, row}
 use Rattle.bundle_reader.specs.Examined.{filled, form, forms_of, rows_in}
 use Rattle.bundle_reader.specs.declared.Examined.{Examined}
 use Rattle.bundle_reader.proofs.IdLaws.{general_is}
-use Rattle.normal_form.specs.Code.{values, given, Short, Read}
+use Rattle.bundle.specs.Differences.{input_stop}
+use Rattle.normal_form.specs.Code.{values, first_given, listed, Short, Read}
 use Rattle.normal_form.specs.declared.Entry.{Entry as Held}
 use Rattle.normal_form.proofs.GivenLaws.{sorted_short}
-use Rattle.normal_form.proofs.NormaliseLaws.{read, sorted-values}
-use Rattle.bundle_compare.specs.Code.{Reads}
+use Rattle.bundle_compare.specs.Code.{Sorted}
+use Rattle.normal_form.proofs.NormaliseLaws.{read_ok, counted, room_for, sorted-values}
 
 -- one of at most 32 KiB, by the general reading
-pub reads : (s : List ℕ) (ids₀ ids : List (List ℕ)) (result : Result Examined Refusal) → length s ≤ 32768 → stop_of result ≡ bundle_stop (rules_of General) s
-    → IfOk result (λ e. e ≡ record { count = count s; rows = rows_in s (count s) }) → ids ≡ filled ids₀ (forms_of (rules_of General) s) (form (rules_of General) (row s)) → length ids₀ ≡ 64
-    → Reads s ids result
-reads s ids₀ ids (Ok e) h stop value after room =
-    let go_on = rw general_is at stop in
-    let made = rw general_is at after in
-    (short-number id_rules s h ∙ ap (λ (t : Stop). t.number) (sym go_on), read id_rules s ids₀ ids e go_on value made room)
-reads s ids₀ ids (Err r) h stop value after room = let stopped = rw general_is at stop in ap (λ (t : Stop). t.number) stopped ∙ sym (short-number id_rules s h)
+module _ (s : List ℕ) (h : length s ≤ 32768) where
+  pub read-refused : (r : Refusal) → stop_by r ≡ bundle_stop (rules_of General) s → number_of r.reason ≡ (input_stop id_rules s).number
+  read-refused r e = let stopped = rw general_is at e in ap (λ (t : Stop). t.number) stopped ∙ sym (short-number id_rules s h)
 
--- what a bundle has that was read: `all` are its entries in order, in the first places
-module _ (s : List ℕ) (e : Examined) (ids : List (List ℕ)) (r : Read id_rules s e ids)
-    (all : List Held) (h : values (take (length (take e.count e.rows)) all) ≡ sort_by by_id (given s (take e.count e.rows) ids))
-  where
-    pub read-sorted : values (take e.count all) ≡ sort_by by_id (entries id_rules s)
-    read-sorted = sorted-values id_rules s e ids r all h
+  module _ (ids₀ ids : List (List ℕ)) (result : Result Examined Refusal) (e : Examined) (is : result ≡ Ok e) (stops : stop_of result ≡ bundle_stop (rules_of General) s)
+      (value : IfOk result (λ x. x ≡ record { count = count s; rows = rows_in s (count s) })) (after : ids ≡ filled ids₀ (forms_of (rules_of General) s) (form (rules_of General) (row s))) (room : length ids₀ ≡ 64)
+    where
+      held : Read id_rules s e ids
+      held =
+          let general = rw general_is at stops in
+          let made = rw general_is at after in
+          read_ok id_rules s ids₀ ids result e is general value made room
 
-    pub read-short : Short (take e.count all)
-    read-short = sorted_short id_rules id_rules_lawful _ _ _ _ read-sorted
+      pub rows_few : e.count ≤ 64
+      rows_few = held.says.few
 
-    pub read-rising : T (rising_by by_id (values (take e.count all)))
-    read-rising = rw read-sorted (distinct-rising by_id (entries id_rules s) (accepted_writable id_rules id_rules_lawful s r.says.sound).distinct)
+      pub rows_all : e.count ≡ length (take e.count e.rows)
+      rows_all = sym (counted id_rules s e ids held)
+
+      -- its entries in order, in the first places of a list
+      pub read-sorted : (all : List Held) (tail : List Entry) (places : ℕ) → (count s ≤ 64 → count s ≤ places) → length all ≡ places
+          → values all ≡ over (sort_by by_id (first_given (listed (take e.count e.rows) ids places) s (take e.count e.rows) ids)) tail
+          → (e.count ≤ length all) × Sorted s (take e.count all)
+      read-sorted all tail places enough same q =
+          let goes = ap stop_of is in
+          let general = rw general_is at stops in
+          let fits = room_for id_rules s e ids held places enough in (
+            omega (arith, fits, same),
+            record {
+              goes = short-number id_rules s h ∙ ap (λ (t : Stop). t.number) (sym general ∙ goes);
+              few = omega (arith, length-take e.count all, held.says.few);
+              are = sorted-values id_rules s e ids held all tail places fits q;
+            },
+          )
+
+-- the entries of a bundle that is not refused, in order
+module _ (s : List ℕ) (es : List Held) (r : Sorted s es) where
+  pub read-short : Short es
+  read-short = sorted_short id_rules id_rules_lawful _ _ _ _ r.are
+
+  pub read-rising : T (rising_by by_id (values es))
+  read-rising = rw r.are (distinct-rising by_id (entries id_rules s) (accepted_writable id_rules id_rules_lawful s (input_accepted id_rules s r.goes).1).distinct)

@@ -5,12 +5,14 @@ use mathlib.Core.Path.{◌≡◌, refl, sym, ap, ◌∙◌}
 use mathlib.Core.Bool.{true, false}
 use mathlib.Core.List.{List, [], ◌∷◌, ◌++◌, map, map-append, append-nil, append_assoc}
 use lib.Dec.{eqb}
-use lib.ListN.{length, get_or, take}
+use lib.ListN.{length, get_or, take, length-append}
 use lib.Seq.{take-suc, take_all}
 use Rattle.wire.specs.Bytes.{bytes}
 use Rattle.wire.specs.Lists.{joined}
+use Rattle.wire.proofs.Bools.{by_bool}
 use Rattle.wire.proofs.ListLaws.{joined-append}
 use Rattle.bundle.specs.Differences.{Difference, decimal, line, ended, printed, last_line, difference_lines, refused_line}
+use Rattle.bundle.proofs.DecimalLaws.{decimal_most}
 use Rattle.bundle_compare.specs.Code.{shown, shown_all, Put}
 use Rattle.bundle_compare.specs.declared.find.Difference.{Difference as Found}
 use Rattle.bundle_compare.specs.declared.find.Difference.TheVariants.{OnlyLeft, OnlyRight, Images}
@@ -27,6 +29,14 @@ module _ (letter : ℕ) (id : List ℕ) (n : ℕ) where
   pub line-alone : eqb letter 68 ≡ false → ((letter ∷ 32 ∷ []) ++ id) ++ (10 ∷ []) ≡ ended (line (record { letter = letter; id = id; at = n }))
   unfolding line
   line-alone f = rw f (ap (λ r. letter ∷ 32 ∷ (r ++ (10 ∷ []))) (sym (append-nil id)))
+
+  -- how long it is at most
+  pub line-short : length id ≤ 256 → n < 18446744073709551616 → length (ended (line (record { letter = letter; id = id; at = n }))) ≤ 280
+  unfolding line
+  line-short h k =
+      by_bool (eqb letter 68)
+      (λ t. omega (arith, ap length (line_both t), length-append ((letter ∷ 32 ∷ []) ++ id) (32 ∷ (decimal n ++ (10 ∷ []))), length-append (decimal n) (10 ∷ []), h, decimal_most 19 n (omega (arith, k))))
+      (λ f. omega (arith, ap length (line-alone f), length-append ((letter ∷ 32 ∷ []) ++ id) (10 ∷ []), h))
 
 module _ (d : Found) (letter : ℕ) (id : List ℕ) where
   pub line_images : (x : Bor (List ℕ)) (n : ℕ) → d ≡ Images x n → letter ≡ (shown d).letter → id ≡ (shown d).id → ((letter ∷ 32 ∷ []) ++ id) ++ (32 ∷ (decimal n ++ (10 ∷ []))) ≡ ended (line (shown d))
@@ -49,6 +59,10 @@ refused-bytes side k =
     ∙ ap (λ r. bytes "refused " ++ r) (sym (append_assoc side (32 ∷ decimal k) (10 ∷ [])))
     ∙ sym (append_assoc (bytes "refused ") (side ++ (32 ∷ decimal k)) (10 ∷ []))
     ∙ sym (append-nil (ended (bytes "refused " ++ (side ++ (32 ∷ decimal k)))))
+
+pub refused-short : (side : List ℕ) (k : ℕ) → length side ≤ 5 → k < 18446744073709551616 → length (printed (refused_line side k ∷ [])) ≤ 36
+refused-short side k h l =
+    omega (arith, ap length (refused-bytes side k), length-append (bytes "refused " ++ side) (32 ∷ (decimal k ++ (10 ∷ []))), length-append (bytes "refused ") side, length-append (decimal k) (10 ∷ []), h, decimal_most 19 k (omega (arith, l)))
 
 pub lines-bytes : (ds : List Difference) (n : ℕ) → n ≡ length ds
     → (printed (map line ds) ++ bytes "differences") ++ (32 ∷ (decimal n ++ (10 ∷ []))) ≡ printed (difference_lines ds)

@@ -1,5 +1,5 @@
 -- What the code that compares holds between its steps. No public promise rests on this file.
-use Rattle.std.specs.Prelude.{ℕ, ◌+◌, ◌≤◌, ◌≡◌, true, Result, Ok, Err, length}
+use Rattle.std.specs.Prelude.{ℕ, ◌+◌, ◌≤◌, ◌≡◌, true, Result, Ok, Err, length, take}
 use Prim.Native.Char.{code}
 use mathlib.Core.List.{List, [], map, Memᴰ}
 use Rattle.std.specs.declared.cmp.Ordering.{Ordering}
@@ -9,8 +9,11 @@ use Rattle.wire.specs.Refusals.{number_of}
 use Rattle.wire.specs.declared.Refusal.{Refusal}
 use Rattle.entry_id.specs.Rules.{id_rules}
 use Rattle.bundle.specs.Differences.{Difference, input_stop}
-use Rattle.bundle_reader.specs.declared.Examined.{Examined}
-use Rattle.normal_form.specs.Code.{Read}
+use Rattle.bundle.specs.Entry.{entries}
+use Rattle.bundle.specs.Normal.{by_id}
+use Rattle.wire.specs.Order.{sort_by}
+use Rattle.normal_form.specs.Code.{values}
+use Rattle.normal_form.specs.declared.Entry.{Entry as Held}
 use Rattle.bundle_compare.specs.declared.find.Difference.{Difference as Found}
 use Rattle.bundle_compare.specs.declared.find.Difference.TheVariants.{OnlyLeft, OnlyRight, Images}
 
@@ -37,11 +40,16 @@ Ordered x y Less = before x y ≡ true
 Ordered x y Equal = x ≡ y
 Ordered x y Greater = before y x ≡ true
 
--- ---- a bundle that is read to be compared: its rows, with its canonical IDs, or what refuses it
+-- ---- a bundle that is read to be compared: its entries in the order of their IDs, in the first places, or what refuses it
 
-abbrev pub Reads : List ℕ → List (List ℕ) → Result Examined Refusal → Type 0
-Reads s ids (Ok e) = ((input_stop id_rules s).number ≡ 0) × Read id_rules s e ids
-Reads s ids (Err r) = number_of r.reason ≡ (input_stop id_rules s).number
+pub record Sorted (s : List ℕ) (all : List Held) : Type 0 where
+  pub goes : (input_stop id_rules s).number ≡ 0
+  pub few : length all ≤ 64
+  pub are : values all ≡ sort_by by_id (entries id_rules s)
+
+abbrev pub Reads : List ℕ → Result ℕ Refusal → List Held → Type 0
+Reads s (Ok n) all = (n ≤ length all) × Sorted s (take n all)
+Reads s (Err r) all = number_of r.reason ≡ (input_stop id_rules s).number
 
 -- ---- text
 

@@ -109,16 +109,19 @@ fn first_difference(x: &[u8], y: &[u8]) -> Option<usize>
     Some(n)
 }
 
-// The differences of the entries of the left and of the right. Out of line, so that its list does not lie on the stack while entries are sorted.
-#[inline(never)]
-pub(crate) fn find_differences<'a>(left: &[Entry<'a>], right: &[Entry<'a>]) -> Differences<'a>
+// Finds the differences of the entries of the left and of the right, where none was found before.
+pub(crate) fn find_differences<'a>(
+    left: &[Entry<'a>],
+    right: &[Entry<'a>],
+    found: &mut Differences<'a>,
+)
+    requires none { found.old ≡ [] }
     requires few { length left.now + length right.now ≤ 128 }
     requires short { Short left.now × Short right.now }
     requires rising { T (rising_by by_id (values left.now)) × T (rising_by by_id (values right.now)) }
-    ensures value { shown_all result ≡ differences_of (values left.now) (values right.now) }
-    ensures fits { (length result ≤ 128) × ShortIds result }
+    ensures value { shown_all found.new ≡ differences_of (values left.now) (values right.now) }
+    ensures fits { (length found.new ≤ 128) × ShortIds found.new }
 {
-    let mut found = Differences::new();
     let mut i = 0;
     let mut j = 0;
     // Not a range: each list goes at its own pace.
@@ -149,5 +152,4 @@ pub(crate) fn find_differences<'a>(left: &[Entry<'a>], right: &[Entry<'a>]) -> D
     for r in &right[j..] {
         found.push(Difference::OnlyRight(r.id));
     }
-    found
 }

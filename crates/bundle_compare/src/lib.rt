@@ -4,66 +4,111 @@
 mod find;
 mod report;
 
-ghost use Rattle.std.specs.Prelude.{◌≡◌, Ok, length};
+ghost use Rattle.std.specs.Prelude.{◌≡◌, ◌≤◌, List, ℕ, length};
+ghost use Rattle.bundle.specs.Table.{count};
 ghost use Rattle.entry_id.specs.Rules.{id_rules};
 ghost use Rattle.bundle.specs.Differences.{report, reported};
-ghost use Rattle.bundle_compare.specs.Code.{Reads};
+ghost use Rattle.bundle_compare.specs.Code.{Reads, Sorted};
 
-use crate::find::find_differences;
+use crate::find::{Differences, find_differences};
 use crate::report::{write_differences, write_refused};
-use bundle_reader::{CanonicalId, Examined, no_ids};
+use bundle_reader::{CanonicalId, is_few, no_ids};
 use entry_id::Reading;
-use normal_form::sorted_entries;
+use normal_form::{Entry, NO_ENTRY, sorted_entries};
 use wire::{Reason, Refusal};
 
 // The most bytes in a bundle that is compared.
 const COMPARE_LIMIT: usize = 32768;
 
-// Examines a bundle that is compared: LENGTH refuses a longer one. Its canonical IDs go to `ids`.
-fn read(s: &[u8], ids: &mut [CanonicalId; 64]) -> Result<Examined, Refusal>
-    ensures { Reads s.now ids.new result }
+// Reads a bundle that is compared: its canonical IDs go to `ids`, its entries in the order of their IDs to the first places, and it is told how many they are.
+// LENGTH refuses a longer one.
+fn read<'a>(
+    s: &'a [u8],
+    ids: &'a mut [CanonicalId; 64],
+    entries: &mut [Entry<'a>],
+) -> Result<usize, Refusal>
+    requires { count s.now ≤ 64 → count s.now ≤ length entries.old }
+    ensures { Reads s.now result entries.new }
 {
     if COMPARE_LIMIT < s.len() {
         return Err(Reason::Length.at(0));
     }
-    bundle_reader::examine(Reading::General, s, ids)
+    // By reference, so that the rows are not copied.
+    match &bundle_reader::examine(Reading::General, s, ids) {
+        Ok(examined) => {
+            sorted_entries(s, &examined.rows[..examined.count], ids, entries);
+            Ok(examined.count)
+        }
+        Err(refusal) => Err(*refusal),
+    }
 }
 
-// The report on two bundles that were examined. Out of line, so that its lists do not lie on the stack while the bundles are examined.
-#[inline(never)]
-fn report_differences(
-    left: &[u8],
-    l: &Examined,
-    left_ids: &[CanonicalId; 64],
-    right: &[u8],
-    r: &Examined,
-    right_ids: &[CanonicalId; 64],
+// The report, of a right bundle whose entries go to `entries`.
+fn compare_entries<'a>(
+    left: &[Entry<'a>],
+    right: &'a [u8],
+    ids: &'a mut [CanonicalId; 64],
+    entries: &mut [Entry<'a>],
     out: &mut [u8],
 ) -> usize
-    requires { Reads left.now left_ids.now (Ok l.now) × Reads right.now right_ids.now (Ok r.now) }
-    ensures value { result ≡ length (report id_rules left.now right.now) }
-    ensures out_after { out.new ≡ reported id_rules left.now right.now out.old }
+    requires known { (a : List ℕ) × Sorted a left.now }
+    requires room { count right.now ≤ 64 → count right.now ≤ length entries.old }
+    ensures value { (a : List ℕ) → Sorted a left.now → result ≡ length (report id_rules a right.now) }
+    ensures out_after { (a : List ℕ) → Sorted a left.now → out.new ≡ reported id_rules a right.now out.old }
 {
-    let left_entries = sorted_entries(left, &l.rows[..l.count], left_ids);
-    let right_entries = sorted_entries(right, &r.rows[..r.count], right_ids);
-    let found = find_differences(&left_entries[..l.count], &right_entries[..r.count]);
-    write_differences(found.as_slice(), out)
+    match read(right, ids, entries) {
+        Ok(count) => {
+            let mut found = Differences::new();
+            find_differences(left, &entries[..count], &mut found);
+            write_differences(found.as_slice(), out)
+        }
+        Err(refusal) => write_refused(b"right", refusal.reason, out),
+    }
 }
 
-// The report on the differences of two bundles, over `out` where it fits; how many bytes it has.
-pub fn compare(left: &[u8], right: &[u8], out: &mut [u8]) -> usize
+// The report, of a left bundle whose entries these are, in the order of their IDs.
+fn compare_right<'a>(left: &[Entry<'a>], right: &'a [u8], out: &mut [u8]) -> usize
+    requires { (a : List ℕ) × Sorted a left.now }
+    ensures value { (a : List ℕ) → Sorted a left.now → result ≡ length (report id_rules a right.now) }
+    ensures out_after { (a : List ℕ) → Sorted a left.now → out.new ≡ reported id_rules a right.now out.old }
+{
+    let mut ids = no_ids();
+    if is_few(right) {
+        let mut few = [NO_ENTRY; 8];
+        return compare_entries(left, right, &mut ids, &mut few, out);
+    }
+    let mut entries = [NO_ENTRY; 64];
+    compare_entries(left, right, &mut ids, &mut entries, out)
+}
+
+// The report, of a left bundle whose entries go to `entries`.
+fn compare_left<'a>(
+    left: &'a [u8],
+    right: &'a [u8],
+    ids: &'a mut [CanonicalId; 64],
+    entries: &mut [Entry<'a>],
+    out: &mut [u8],
+) -> usize
+    requires { count left.now ≤ 64 → count left.now ≤ length entries.old }
     ensures value { result ≡ length (report id_rules left.now right.now) }
     ensures out_after { out.new ≡ reported id_rules left.now right.now out.old }
 {
-    let mut left_ids = no_ids();
-    let l = match read(left, &mut left_ids) {
-        Ok(examined) => examined,
-        Err(refusal) => return write_refused(b"left", refusal.reason, out),
-    };
-    let mut right_ids = no_ids();
-    let r = match read(right, &mut right_ids) {
-        Ok(examined) => examined,
-        Err(refusal) => return write_refused(b"right", refusal.reason, out),
-    };
-    report_differences(left, &l, &left_ids, right, &r, &right_ids, out)
+    match read(left, ids, entries) {
+        Ok(count) => compare_right(&entries[..count], right, out),
+        Err(refusal) => write_refused(b"left", refusal.reason, out),
+    }
+}
+
+// The report on the differences of two bundles, over `out` where it fits; how many bytes it has. Few entries need few places.
+pub fn compare<'a>(left: &'a [u8], right: &'a [u8], out: &mut [u8]) -> usize
+    ensures value { result ≡ length (report id_rules left.now right.now) }
+    ensures out_after { out.new ≡ reported id_rules left.now right.now out.old }
+{
+    let mut ids = no_ids();
+    if is_few(left) {
+        let mut few = [NO_ENTRY; 8];
+        return compare_left(left, right, &mut ids, &mut few, out);
+    }
+    let mut entries = [NO_ENTRY; 64];
+    compare_left(left, right, &mut ids, &mut entries, out)
 }

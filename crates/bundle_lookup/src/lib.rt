@@ -27,7 +27,11 @@ fn answer(source: Source, picked: Result<Image, Refusal>) -> Result<SourceImage,
     ensures { found_of result ≡ answer_of (source_number source) (picked_of picked) }
 {
     match picked {
-        Ok(image) => Ok(SourceImage { source, image }),
+        Ok(image) => Ok(SourceImage {
+            source,
+            position: image.position,
+            size: image.size,
+        }),
         Err(refusal) => Err(LookupRefusal {
             refusal,
             source: of_check(refusal.reason).then_some(source),
@@ -65,11 +69,11 @@ pub fn find_image(patch: &[u8], main: &[u8], device: &[u8]) -> Result<SourceImag
 }
 
 // The bytes of an image. Nothing is cut off or left out here, as `part_of` of names and `bytes_at` of binaries do: an answer lies inside.
-fn part(s: &[u8], image: Image) -> &[u8]
-    requires { image.position + image.size ≤ length s.now }
-    ensures { result.now ≡ take image.size (drop image.position s.now) }
+fn part(s: &[u8], found: SourceImage) -> &[u8]
+    requires { found.position + found.size ≤ length s.now }
+    ensures { result.now ≡ take found.size (drop found.position s.now) }
 {
-    &s[image.position..image.position + image.size]
+    &s[found.position..found.position + found.size]
 }
 
 // The part of the bundles that an answer names.
@@ -83,8 +87,8 @@ fn part_of<'a>(
 {
     match found {
         Ok(found) => match found.source {
-            Source::Patch => part(patch, found.image),
-            Source::Main => part(main, found.image),
+            Source::Patch => part(patch, found),
+            Source::Main => part(main, found),
         },
         Err(_) => &main[..0],
     }

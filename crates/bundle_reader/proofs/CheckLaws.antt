@@ -8,9 +8,9 @@ use mathlib.Core.List.{List}
 use Rattle.std.specs.Prelude.{Some, None, Result, Ok, Err, IfOk}
 use lib.Dec.{ltb}
 use lib.ListN.{length, take}
-use borrow.Author.Tests.{leb-true, le-leb, ltb-false}
+use borrow.Author.Tests.{leb-true, le-leb, lt-ltb, ltb-false}
 use Rattle.wire.specs.First.{first}
-use Rattle.wire.specs.Stop.{Stop, go, stop, ◌⨾◌, stop_if, stop_at, earlier}
+use Rattle.wire.specs.Stop.{Stop, go, stop, ◌⨾◌, stop_if, stop_when, stop_at, earlier}
 use Rattle.wire.specs.Refusals.{stop_by, stop_of}
 use Rattle.wire.specs.declared.Refusal.{Refusal}
 use Rattle.wire.proofs.Bools.{by_bool, and_both, both_and, not_no, yes_not}
@@ -54,6 +54,10 @@ part_fits room r = (
 
 pub part_bad : (room : ℕ) (r : EntryRecord) → (PartFits room r → ⊥) → bad_part room r ≡ true
 part_bad room r h = by_bool (bad_part room r) (λ t. t) (λ f. absurd (h ((part_fits room r).0 f)))
+
+pub stop-many : (R : IdRules) (ids : List ℕ) (len n : ℕ) (rows : List EntryRecord) → 64 < n → records_stop R ids len n rows ≡ stop 3 0
+unfolding records_stop stop_if stop_when ◌⨾◌
+stop-many R ids len n rows h = rw (lt-ltb 64 n h)
 
 -- ---- the answer
 

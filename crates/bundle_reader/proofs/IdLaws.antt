@@ -5,14 +5,14 @@ use mathlib.Core.Path.{◌≡◌, refl, sym, ap, ap₂, ◌∙◌}
 use mathlib.Core.Bool.{Bool, true, false}
 use mathlib.Core.List.{List, [], ◌++◌}
 use lib.Dec.{eqb}
-use lib.ListN.{length, get_or, take, drop}
+use lib.ListN.{length, get_or, take, drop, replicate}
 use lib.Seq.{take_at}
 use borrow.Author.Tests.{eq-eqb, eqb-false}
-use Rattle.std.proofs.lemmas.List.{get_or_read_under}
+use Rattle.std.proofs.lemmas.List.{get_or_read_under, ext_get_or, length-replicate, get_or-replicate}
 use Rattle.wire.specs.Bytes.{empty}
 use Rattle.wire.specs.First.{first}
 use Rattle.wire.proofs.Bools.{by_bool}
-use Rattle.wire.proofs.ByteLaws.{length_some}
+use Rattle.wire.proofs.ByteLaws.{length_some, empty_nil}
 use Rattle.wire.proofs.FirstLaws.{first_le, first-before, first_at, first_is}
 use Rattle.entry_id.proofs.KeyLaws.{key-same, key-mixed, key-compatible}
 use Rattle.entry_id.proofs.RuleLaws.{form_whole, canon_of_general, same_rules, mixed_rules, compatible_rules}
@@ -24,7 +24,7 @@ use Rattle.std.specs.Prelude.{Option, Some, None}
 use Rattle.canonical_form.specs.Made.{form_of}
 use Rattle.canonical_form.proofs.MadeLaws.{form_parts, form_none}
 use Rattle.canonical_form.specs.declared.Form.{Form}
-use Rattle.bundle_reader.specs.Examined.{id_at}
+use Rattle.bundle_reader.specs.Examined.{id_at, taken}
 use Rattle.bundle_reader.specs.Slots.{near}
 
 -- the general reading
@@ -35,6 +35,10 @@ general_is = refl
 -- an ID that is read
 pub item_is : (ids : List (List ℕ)) (k : ℕ) (x : List ℕ) → k < length ids → x ≡ get_or ids k x → x ≡ id_at ids k
 item_is ids k x h e = get_or_read_under ids k (length ids) x [] e h refl
+
+-- none that was read
+pub none_read : (ids : List (List ℕ)) (n : ℕ) → length ids ≡ n → ((i : ℕ) → i < n → id_at ids i ≡ []) → ids ≡ replicate n []
+none_read ids n e h = ext_get_or [] _ _ (e ∙ sym (length-replicate n [])) (λ i l. h i (omega (arith, e)) ∙ sym (get_or-replicate n i [] [] (omega (arith, e))))
 
 -- ---- a form that was made
 
@@ -72,6 +76,19 @@ module _ (c before after : List ℕ) (e : after ≡ c ++ drop (length c) before)
 
     pub made_key : form.key ≡ head_key (take form.length after)
     made_key = told.2 ∙ ap head_key (sym made_text)
+
+-- ---- what a reading leaves
+
+pub taken_new : (new old : List ℕ) → empty new ≡ false → taken new old ≡ new
+unfolding taken
+taken_new new old e = rw e
+
+pub taken_old : (new old : List ℕ) → empty new ≡ true → taken new old ≡ old
+unfolding taken
+taken_old new old e = rw e
+
+pub taken_first : (new old : List ℕ) → old ≡ [] → taken new old ≡ new
+taken_first new old e = by_bool (empty new) (λ t. taken_old new old t ∙ e ∙ sym (empty_nil new t)) (λ f. taken_new new old f)
 
 -- ---- canonical forms whose heads have different numbers
 

@@ -41,7 +41,7 @@ use Rattle.bundle_reader.specs.Slots.{choice, image_of}
 use Rattle.bundle_reader.proofs.RefusalLaws.{number_suc, refuses, refused-zero}
 use Rattle.bundle_reader.proofs.FilledLaws.{length-filled, front-length, front_at}
 use Rattle.bundle_reader.proofs.IdLaws.{compatible_by}
-use Rattle.bundle_reader.proofs.RowLaws.{rows_at}
+use Rattle.bundle_reader.proofs.RowLaws.{rows_room, rows-length, rows_at}
 use Rattle.bundle_reader.proofs.CheckLaws.{forms_all}
 
 -- ---- the choice of an entry
@@ -147,6 +147,25 @@ module _ (reading : Reading) (s : List ℕ) (e : go ≡ bundle_stop (rules_of re
         ∙ sym (pick-found R (rules_lawful reading) s device asked i (omega (arith, size)) (sym (fit device some i l) ∙ t)))
         (λ w none.
         ap shown w ∙ sym (pick-none R s device asked (λ k h. sym (fit device some k (omega (arith, size))) ∙ none k (omega (arith, size, ids-length))))))
+
+-- what a check leaves for a pick: the rows and the canonical IDs of the n entries lie in the first places
+pub record Kept (reading : Reading) (s : List ℕ) (n : ℕ) (rows : List EntryRecord) (ids : List (List ℕ)) : Type 0 where
+  pub rows_room : n ≤ length rows
+  pub rows_are : n ≡ length (take n rows)
+  pub ids_room : n ≤ length ids
+  pub ids_are : n ≡ length (take n ids)
+  pub picked : (device : List ℕ) → picked_of (image_of (take n rows) (choice (take n ids) ((rules_of reading).canon device))) ≡ pick (rules_of reading) s device
+
+pub kept : (reading : Reading) (s : List ℕ) → go ≡ bundle_stop (rules_of reading) s → (n : ℕ) → n ≡ count s → (rows₀ rows : List EntryRecord) (ids₀ ids : List (List ℕ))
+    → (count s ≤ length rows₀) × (count s ≤ length ids₀) → rows ≡ filled rows₀ (count s) (row_held s) → ids ≡ filled ids₀ (forms_of (rules_of reading) s) (form (rules_of reading) (row s))
+    → Kept reading s n rows ids
+kept reading s e n size rows₀ rows ids₀ ids room held made = record {
+  rows_room = rows_room s n rows₀ rows size held room.0;
+  rows_are = sym (rows-length s n rows₀ rows size held room.0);
+  ids_room = ids_room reading s e n size rows₀ rows ids₀ ids room held made;
+  ids_are = sym (ids-length reading s e n size rows₀ rows ids₀ ids room held made);
+  picked = picked_is reading s e n size rows₀ rows ids₀ ids room held made;
+}
 
 -- ---- the entry at an index
 

@@ -3,20 +3,29 @@ use Prim.Native.Nat.{ℕ, suc, ◌+◌, ◌-◌, ◌<◌}
 use native.Mathlib.Omega.{arith}
 use mathlib.Core.Path.{◌≡◌, refl, sym, ap, ap₂, ◌∙◌}
 use mathlib.Core.Bool.{Bool, true, false, ◌||◌}
-use Rattle.std.specs.Prelude.{Option, Some, None}
+use mathlib.Core.List.{List}
+use Rattle.std.specs.Prelude.{Option, Some, None, Result, Ok, Err, IfOk}
 use Rattle.std.specs.Option.{option_or}
 use Rattle.std.specs.Bool.{then_some}
-use borrow.Author.Tests.{ltb-true}
+use borrow.Author.Tests.{ltb-true, eq-eqb, ne_eqb}
 use borrow.Author.Count.{below_more}
 use Rattle.wire.specs.First.{first, any_below}
 use Rattle.wire.specs.Stop.{Stop, go, stop, ◌⨾◌, stop_at, unrefused}
-use Rattle.wire.specs.Refusals.{number_of, stop_by}
+use Rattle.wire.specs.Refusals.{number_of, stop_by, stop_of}
 use Rattle.wire.specs.declared.Reason.{Reason}
 use Rattle.wire.specs.declared.Reason.TheVariants as reasons
 use Rattle.wire.specs.declared.Refusal.{Refusal}
 use Rattle.wire.proofs.Bools.{by_bool}
 use Rattle.wire.proofs.FirstLaws.{first_is, first-before, first_at, any_some, any_none, none_any}
 use Rattle.wire.proofs.StopLaws.{⨾-go, ⨾-first, stop_at_found, stop_at_go, unrefused-stop}
+use Rattle.entry_id.specs.IdRules.{IdRules}
+use Rattle.bundle.specs.Table.{count}
+use Rattle.bundle.specs.Results.{picked_of}
+use Rattle.bundle.specs.declared.Image.{Image}
+use Rattle.bundle.specs.declared.Picked.{Picked}
+use Rattle.bundle.specs.declared.PickedInTurn.{PickedInTurn}
+use Rattle.bundle.specs.declared.PickedInTurn.TheVariants.{First, Second}
+use Rattle.bundle_reader.specs.Examined.{reason_of, result_by, found, InTurn, pick_in_turn}
 use Rattle.bundle_reader.specs.Slots.{first_found}
 
 -- a reason's number is not 0
@@ -59,6 +68,64 @@ passes t a b e f = f ∙ sym (⨾-go b) ∙ ap (λ z. z ⨾ b) e
 -- what a refusal has beside its number and place
 pub refused-zero : (r : Refusal) (a : Stop) (v : ℕ) → stop_by r ≡ a → unrefused a v ≡ 0
 refused-zero r a v e = let (k, q) = number_suc r.reason in unrefused-stop a v k (ap (λ t. t.number) (sym e) ∙ q)
+
+-- ---- a result by what refuses it
+
+reason_is : (r : Reason) → r ≡ reason_of (number_of r)
+unfolding reason_of
+reason_is reasons.Length = refl
+reason_is reasons.Magic = refl
+reason_is reasons.Count = refl
+reason_is reasons.Table = refl
+reason_is reasons.Id = refl
+reason_is reasons.Range = refl
+reason_is reasons.Twice = refl
+reason_is reasons.Mixed = refl
+reason_is reasons.Query = refl
+reason_is reasons.None = refl
+reason_is reasons.Big = refl
+reason_is reasons.Room = refl
+reason_is reasons.Head = refl
+reason_is reasons.Span = refl
+reason_is reasons.Kind = refl
+reason_is reasons.Strings = refl
+reason_is reasons.Image = refl
+reason_is reasons.Many = refl
+reason_is reasons.End = refl
+reason_is reasons.Overlap = refl
+reason_is reasons.Names = refl
+
+module _ {A : Type 0} (v : A) where
+  err_is : (r : Refusal) → Err r ≡ result_by (stop_by r) v
+  unfolding result_by
+  err_is r =
+      let (k, q) = number_suc r.reason in
+      ap (λ z. Err (record { reason = z; place = r.place })) (reason_is r.reason) ∙ (rw q)
+
+  ok_is : Ok v ≡ result_by go v
+  unfolding result_by
+  ok_is = refl
+
+  pub result_is : (t : Stop) (r : Result A Refusal) → stop_of r ≡ t → IfOk r (λ x. x ≡ v) → r ≡ result_by t v
+  result_is t (Ok x) e q = ap Ok q ∙ ok_is ∙ ap (λ z. result_by z v) e
+  result_is t (Err r) e q = err_is r ∙ ap (λ z. result_by z v) e
+
+-- of no value
+pub unit_is : (r : Result (Unit {0}) Refusal) → IfOk r (λ x. x ≡ tt)
+unit_is (Ok x) = refl
+unit_is (Err r) = tt
+
+pub found_is : (r : Result Image Refusal) (p : Picked) → picked_of r ≡ p → r ≡ found p
+unfolding found
+found_is (Ok i) p e = result_is i go (Ok i) refl refl ∙ ap found e
+found_is (Err r) p e = err_is (record { index = 0; position = 0; size = 0 }) r ∙ ap found e
+
+-- the first bundle and the second in turn
+pub turn_is : (R : IdRules) (first second device : List ℕ) (r : PickedInTurn) → InTurn R first second device r → r ≡ pick_in_turn R first second device
+unfolding pick_in_turn
+turn_is R first second device (Second q) (ten, is) = ap Second (found_is q _ is) ∙ (rw (eq-eqb _ 10 ten))
+turn_is R first second device (First p c) (other, picked, stops, value) =
+    ap₂ (λ x y. First x y) (found_is p _ picked) (result_is (count second) _ c stops value) ∙ (rw (ne_eqb _ 10 other))
 
 -- ---- the first of some places
 

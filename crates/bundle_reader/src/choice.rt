@@ -49,7 +49,7 @@ pub(crate) fn pick_from(
 }
 
 // The pick from a bundle by a device name in canonical form.
-pub(crate) fn pick_in(
+pub(crate) fn pick_named_in(
     reading: Reading,
     s: &[u8],
     name: &CanonicalId,
@@ -61,4 +61,20 @@ pub(crate) fn pick_in(
 {
     let n = check_in(reading, s, rows, ids)?;
     pick_from(&rows[..n], &ids[..n], name)
+}
+
+// The pick from a bundle by a device name, which is made canonical only where the check lets the bundle pass.
+pub(crate) fn pick_in(
+    reading: Reading,
+    s: &[u8],
+    device: &[u8],
+    rows: &mut [EntryRecord],
+    ids: &mut [CanonicalId],
+) -> Result<Image, Refusal>
+    requires { count s.now ≤ 64 → (count s.now ≤ length rows.old) × (count s.now ≤ length ids.old) }
+    ensures { picked_of result ≡ pick (rules_of reading) s.now device.now }
+{
+    let n = check_in(reading, s, rows, ids)?;
+    let name = CanonicalId::of(reading, device);
+    pick_from(&rows[..n], &ids[..n], &name)
 }

@@ -8,7 +8,7 @@ ghost use Rattle.entry_id.specs.Rules.{id_rules};
 ghost use Rattle.bundle.specs.Table.{count};
 ghost use Rattle.bundle.specs.Each.{part_of, slot_of, pick_each, slots_after};
 ghost use Rattle.bundle.specs.Results.{picked_of, picked_each_of};
-ghost use Rattle.bundle_reader.specs.Slots.{takes, picked_at};
+ghost use Rattle.bundle_reader.specs.Slots.{choice, image_of, takes, picked_at};
 
 use crate::choice::pick_from;
 use crate::entries::check_in;
@@ -54,6 +54,22 @@ fn taken_bit(picked: Result<Image, Refusal>) -> u64
     }
 }
 
+// The pick for one device name, which is made canonical in the scratch `name`.
+fn pick_for(
+    rows: &[EntryRecord],
+    ids: &[CanonicalId],
+    device: &[u8],
+    name: &mut CanonicalId,
+) -> Result<Image, Refusal>
+    requires { length ids.now ≤ length rows.now }
+    ensures { result ≡ image_of rows.now (choice ids.now (id_rules.canon device.now)) }
+{
+    if !name.read(Reading::General, device) {
+        return Err(Reason::Query.at(0));
+    }
+    pick_from(rows, ids, name)
+}
+
 // The slots of the names, and the word of the entries taken.
 fn fill_slots(
     rows: &[EntryRecord],
@@ -68,9 +84,9 @@ fn fill_slots(
     ensures slots_after { slots.new ≡ over (tab (length names.now) (λ k. slot_of (picked_of (picked_at rows.now ids.now buffer.now names.now k)))) slots.old }
 {
     let mut word = 0;
+    let mut name = CanonicalId::new();
     for k in 0..names.len() {
-        let name = CanonicalId::of(Reading::General, part_of(buffer, names[k]));
-        let picked = pick_from(rows, ids, &name);
+        let picked = pick_for(rows, ids, part_of(buffer, names[k]), &mut name);
         slots[k] = slot_of(picked);
         word = word | taken_bit(picked);
     }

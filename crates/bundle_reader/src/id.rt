@@ -1,9 +1,10 @@
 // The canonical form of an ID, with the number of its head.
-ghost use Rattle.std.specs.Prelude.{◌≡◌, ◌≤◌, ◌++◌, drop, [], not, true, false, length};
+ghost use Rattle.std.specs.Prelude.{◌≡◌, ◌≤◌, ◌++◌, drop, [], not, length, replicate};
 ghost use Rattle.wire.specs.Bytes.{empty};
 ghost use Rattle.entry_id.specs.Canonical.{head_key, same_text, mixed_text, compatible_text};
 ghost use Rattle.entry_id.specs.Rules.{rules_of};
 ghost use Rattle.canonical_form.specs.Made.{form_of};
+ghost use Rattle.bundle_reader.specs.Examined.{taken};
 ghost use Rattle.entry_compare.specs.Relations.{is_same, is_mixed};
 
 use canonical_form::Form;
@@ -65,8 +66,7 @@ impl CanonicalId {
     // Takes the canonical form of an ID by a reading; false, and as it was, where the ID breaks the rules.
     pub fn read(&mut self, reading: Reading, id: &[u8]) -> bool
         ensures value { result ≡ not (empty ((rules_of reading).canon id.now)) }
-        ensures read { result ≡ true → self.new ≡ (rules_of reading).canon id.now }
-        ensures kept { result ≡ false → self.new ≡ self.old }
+        ensures self_after { self.new ≡ taken ((rules_of reading).canon id.now) self.old }
     {
         match canonical(reading, id, &mut self.text) {
             Some(form) => {
@@ -113,13 +113,14 @@ impl CanonicalId {
 // Scratch for N canonical IDs.
 pub(crate) fn ids_of<const N: usize>() -> [CanonicalId; N]
     requires { N ≤ 64 }
+    ensures { result ≡ replicate N [] }
 {
     std::array::from_fn(|_| CanonicalId::new())
 }
 
 // Scratch for the canonical IDs of a bundle.
 pub fn no_ids() -> [CanonicalId; 64]
-    ensures { length result ≡ 64 }
+    ensures { result ≡ replicate 64 [] }
 {
     ids_of::<64>()
 }

@@ -20,7 +20,7 @@ ghost use Rattle.bundle.specs.Each.{pick_each, slots_after};
 ghost use Rattle.bundle.specs.EntryAt.{entry_at};
 ghost use Rattle.bundle.specs.Records.{no_record, rows_of, records_stop};
 ghost use Rattle.bundle.specs.Results.{checked_of, picked_of, picked_each_of, located_of};
-ghost use Rattle.bundle_reader.specs.Examined.{filled, form, rows_in, forms_of, forms_of_records, InTurn};
+ghost use Rattle.bundle_reader.specs.Examined.{filled, form, rows_in, forms_of, forms_of_records, examined, examined_records, InTurn, pick_in_turn};
 
 use crate::choice::pick_in;
 use crate::each::pick_each_in;
@@ -61,6 +61,7 @@ pub fn examine(
     bundle: &[u8],
     ids: &mut [CanonicalId; 64],
 ) -> Result<Examined, Refusal>
+    ensures answer { result ≡ examined (rules_of reading) bundle.now }
     ensures stop { stop_of result ≡ bundle_stop (rules_of reading) bundle.now }
     ensures value { IfOk result (λ e. e ≡ record { count = count bundle.now; rows = rows_in bundle.now (count bundle.now) }) }
     ensures ids_after { ids.new ≡ filled ids.old (forms_of (rules_of reading) bundle.now) (form (rules_of reading) (row bundle.now)) }
@@ -78,6 +79,7 @@ pub fn examine_records(
     len: usize,
     ids: &mut [CanonicalId; 64],
 ) -> Result<(), Refusal>
+    ensures answer { result ≡ examined_records id_rules buffer.now len records.now }
     ensures stop { stop_of result ≡ records_stop id_rules buffer.now len (length records.now) records.now }
     ensures ids_after { ids.new ≡ filled ids.old (forms_of_records id_rules buffer.now (length records.now) records.now) (form id_rules (rows_of buffer.now records.now)) }
     ensures ids_len { length ids.old ≡ 64 }
@@ -89,7 +91,7 @@ pub fn examine_records(
 
 // At most 8 entries.
 // Filling more scratch takes longer than a check of few. Its size is a const argument, so each call chooses one of two.
-fn is_few(bundle: &[u8]) -> bool
+pub fn is_few(bundle: &[u8]) -> bool
     ensures { result ≡ leb (count bundle.now) 8 }
 {
     wire_read::word_at::<8>(bundle, 24) <= 8
@@ -130,10 +132,9 @@ fn pick_with<const N: usize>(
     requires { (N ≤ 64) × (count bundle.now ≤ 64 → count bundle.now ≤ N) }
     ensures { picked_of result ≡ pick (rules_of reading) bundle.now device.now }
 {
-    let name = CanonicalId::of(reading, device);
     let mut rows = [NO_RECORD; N];
     let mut ids = ids_of::<N>();
-    pick_in(reading, bundle, &name, &mut rows, &mut ids)
+    pick_in(reading, bundle, device, &mut rows, &mut ids)
 }
 
 // The pick of an image from a bundle by a device name, by a reading of its IDs and of the name.
@@ -164,7 +165,8 @@ fn pick_in_turn_with<const N: usize>(first: &[u8], second: &[u8], device: &[u8])
 
 // The pick from a first bundle by a device name, and from a second one where the first says NONE; else the second is only checked.
 pub fn pick_in_turn(first: &[u8], second: &[u8], device: &[u8]) -> PickedInTurn
-    ensures { InTurn id_rules first.now second.now device.now result }
+    ensures answer { result ≡ pick_in_turn id_rules first.now second.now device.now }
+    ensures turn { InTurn id_rules first.now second.now device.now result }
 {
     if is_few(first) && is_few(second) {
         return pick_in_turn_with::<8>(first, second, device);

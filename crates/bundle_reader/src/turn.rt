@@ -5,7 +5,7 @@ ghost use Rattle.bundle.specs.Table.{count};
 ghost use Rattle.bundle.specs.Results.{picked_of};
 ghost use Rattle.bundle_reader.specs.Examined.{InTurn};
 
-use crate::choice::pick_in;
+use crate::choice::pick_named_in;
 use crate::entries::check_in;
 use crate::id::CanonicalId;
 use bundle::{EntryRecord, Image, PickedInTurn};
@@ -34,9 +34,9 @@ pub(crate) fn pick_in_turn_in(
     ensures { InTurn id_rules first.now second.now device.now result }
 {
     let name = CanonicalId::of(Reading::General, device);
-    let picked = pick_in(Reading::General, first, &name, rows, ids);
+    let picked = pick_named_in(Reading::General, first, &name, rows, ids);
     if says_none(picked) {
-        return PickedInTurn::Second(pick_in(Reading::General, second, &name, rows, ids));
+        return PickedInTurn::Second(pick_named_in(Reading::General, second, &name, rows, ids));
     }
     let checked = check_in(Reading::General, second, rows, ids);
     PickedInTurn::First { picked, checked }

@@ -29,7 +29,7 @@ impl Span {
     }
 
     // The feature with the ':' before it and its sign.
-    pub fn chunk(self, id: &[u8]) -> &[u8]
+    pub(crate) fn chunk(self, id: &[u8]) -> &[u8]
         requires { T (good id.now self) }
         ensures { result.now ≡ chunk_of id.now self }
     {

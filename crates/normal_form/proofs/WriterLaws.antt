@@ -1,25 +1,27 @@
 -- The bundle writer over records that were examined. Assumes nothing.
-use Prim.Native.Nat.{ℕ, ◌+◌, ◌≤◌, ◌<◌}
+use Prim.Native.Nat.{ℕ, ◌≤◌}
 use mathlib.Core.Path.{◌≡◌, refl, sym, ap, ap₂, ◌∙◌}
 use mathlib.Core.List.{List}
-use lib.ListN.{length}
-use Rattle.wire.specs.Stop.{go, ◌⨾◌, output}
+use native.Mathlib.Omega.{arith}
+use lib.ListN.{length, take}
+use Rattle.wire.specs.Stop.{go, ◌⨾◌, over, output}
 use Rattle.wire.specs.Refusals.{number_of, stop_by}
 use Rattle.wire.specs.declared.Refusal.{Refusal}
 use Rattle.wire.proofs.StopLaws.{⨾-go}
+use Rattle.wire.proofs.TabLaws.{length_tab}
 use Rattle.entry_id.specs.IdRules.{IdRules}
-use Rattle.bundle.specs.Entry.{Entry}
+use Rattle.bundle.specs.Entry.{Entry, entries_of}
 use Rattle.bundle.specs.Records.{rows_of, records_stop}
 use Rattle.bundle.specs.Layout.{packed_length, encode}
 use Rattle.bundle.specs.Normal.{room_stop, answer}
 use Rattle.bundle.specs.Writer.{entries_given, write_stop, write, written_to}
 use Rattle.bundle.specs.declared.EntryRecord.{EntryRecord}
 use Rattle.bundle.specs.declared.Written.{Written}
-use Rattle.bundle.proofs.WriterLaws.{records_sound}
 use Rattle.bundle_reader.specs.Slots.{Judged}
 use Rattle.bundle_reader.proofs.RefusalLaws.{refuses}
-use Rattle.normal_form.specs.Code.{given, Filled}
-use Rattle.normal_form.proofs.GivenLaws.{filled, given_is}
+use Rattle.normal_form.specs.Code.{values, first_given, listed}
+use Rattle.normal_form.specs.declared.Entry.{Entry as Held}
+use Rattle.normal_form.proofs.GivenLaws.{listed_front, given_is}
 use Rattle.normal_form.proofs.NormaliseLaws.{refused_answer, refused_output}
 
 module _ (R : IdRules) (records : List EntryRecord) (ids images : List ℕ) where
@@ -42,14 +44,20 @@ module _ (R : IdRules) (records : List EntryRecord) (ids images : List ℕ) wher
 
   -- none of them
   module _ (z : go ≡ records_stop R ids (length images) n records) (forms : List (List ℕ)) (j : Judged R ids records forms) where
-    within : (k : ℕ) → k < n → (rows_of ids records k).offset + (rows_of ids records k).size ≤ length images
-    within k h = ((records_sound R n records ids images (ap (λ t. t.number) (sym z))).in_range k h).within
+    records-given : first_given n images records forms ≡ entries_given R n records ids images
+    records-given = given_is R images ids records forms (rows_of ids records) (λ k h. refl) j.ids_are
 
-    pub records-filled : Filled images records forms
-    records-filled = filled R images ids records forms (rows_of ids records) j.few j.ids_room (λ k h. refl) j.ids_are within
+    length-given : length (entries_given R n records ids images) ≡ n
+    unfolding entries_of
+    length-given = length_tab n _
 
-    pub records-given : given images records forms ≡ entries_given R n records ids images
-    records-given = given_is R images ids records forms (rows_of ids records) j.few j.ids_room (λ k h. refl) j.ids_are within
+    -- the entries of the records, in the first places of a list
+    pub listed-values : (es : List Held) (tail : List Entry) (count room : ℕ) → 64 ≤ room → count ≡ listed records forms room → values es ≡ over (first_given (listed records forms room) images records forms) tail
+        → values (take count es) ≡ entries_given R n records ids images
+    listed-values es tail count room fits e h =
+        let all : count ≡ n = omega (arith, e, fits, j.few, j.ids_room) in
+        listed_front es tail count _ (length-given ∙ sym all)
+        (h ∙ ap (λ f. over f tail) (ap (λ m. first_given m images records forms) (sym e ∙ all) ∙ records-given))
 
     module _ (es : List Entry) (q : es ≡ entries_given R n records ids images) where
       goes : (room : ℕ) → room_stop (packed_length es) room ≡ write_stop R n records ids images room

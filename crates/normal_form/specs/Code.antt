@@ -1,6 +1,6 @@
--- What the code that writes holds between its steps: entries, their order and what is written of them. Of the public functions `rising_order` and `sorted_entries`
--- alone, which one crate lends another, rest on this file.
-use Rattle.std.specs.Prelude.{ℕ, ◌+◌, ◌<◌, ◌≤◌, ◌≡◌, Result, Ok, Err, List, length, map}
+-- What the code that writes holds between its steps: entries, their order and what is written of them. Of the public functions `no_entries`, `rising_order` and
+-- `sorted_entries` alone, which one crate lends another, rest on this file.
+use Rattle.std.specs.Prelude.{ℕ, ◌<◌, ◌≤◌, ◌≡◌, min, Result, Ok, Err, List, length, map}
 use mathlib.Core.List.{[], Memᴰ}
 use Rattle.wire.specs.Limit.{limit}
 use Rattle.wire.specs.Lists.{tab}
@@ -41,14 +41,16 @@ Short es = (e : Held) → Memᴰ e es → length e.id.now ≤ 256
 unfoldable pub entry_at : List ℕ → List EntryRecord → List (List ℕ) → ℕ → Entry
 entry_at src records ids i = record { id = id_at ids i; image = image_of src (row_of [] (record_at records i)) }
 
-unfoldable pub given : List ℕ → List EntryRecord → List (List ℕ) → List Entry
-given src records ids = tab (length records) (entry_at src records ids)
+-- the first n
+unfoldable pub first_given : ℕ → List ℕ → List EntryRecord → List (List ℕ) → List Entry
+first_given n src records ids = tab n (entry_at src records ids)
 
--- there is an ID for each, and each image lies in the buffer
-pub record Filled (src : List ℕ) (records : List EntryRecord) (ids : List (List ℕ)) : Type 0 where
-  pub few : length records ≤ 64
-  pub named : length records ≤ length ids
-  pub inside : (i : ℕ) → i < length records → (record_at records i).image_start + (record_at records i).image_len ≤ length src
+abbrev pub given : List ℕ → List EntryRecord → List (List ℕ) → List Entry
+given src records ids = first_given (length records) src records ids
+
+-- as many as there are IDs and places for
+abbrev pub listed : List EntryRecord → List (List ℕ) → ℕ → ℕ
+listed records ids room = min (min (length records) (length ids)) room
 
 -- a bundle that was examined, and is not refused
 pub record Read (R : IdRules) (s : List ℕ) (e : Examined) (ids : List (List ℕ)) : Type 0 where

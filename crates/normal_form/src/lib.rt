@@ -2,16 +2,19 @@
 // Lengths are cast to words by `as`: both have 64 bits here, and std has no `From` between them.
 #![tactic(auto)]
 
-ghost use Rattle.std.specs.Prelude.{◌≡◌, ℕ, List, ◌+◌, ◌<◌, ◌≤◌, ◌∷◌, length, take};
+ghost use Rattle.std.specs.Prelude.{◌≡◌, ℕ, List, [], ◌+◌, ◌<◌, ◌≤◌, ◌∷◌, length};
 ghost use Rattle.wire.specs.Bytes.{overwrite};
 ghost use Rattle.wire.specs.Order.{insert_by, sort_by};
 ghost use Rattle.wire.specs.Stop.{over, output};
 ghost use Rattle.entry_id.specs.Rules.{id_rules, rules_of};
+ghost use Rattle.bundle.specs.Table.{count};
+ghost use Rattle.bundle.specs.Entry.{image_of};
+ghost use Rattle.bundle.specs.Records.{row_of};
 ghost use Rattle.bundle.specs.Results.{written_of};
 ghost use Rattle.bundle.specs.Layout.{row_bytes, table, images, packed, packed_end, packed_length, encode};
 ghost use Rattle.bundle.specs.Normal.{by_id, room_stop, answer, normalise, normalised};
 ghost use Rattle.bundle.specs.Writer.{write, written_to};
-ghost use Rattle.normal_form.specs.Code.{id_of, values, given, Short, Filled, Measured};
+ghost use Rattle.normal_form.specs.Code.{id_of, values, listed, first_given, Short, Measured};
 
 use bundle::EntryRecord;
 use bundle_reader::CanonicalId;
@@ -54,22 +57,39 @@ pub fn rising_order(entries: &mut [Entry])
 
 // ---- the entries of records
 
-// The entries of at most 64 records, in the first places: their canonical IDs stand beside them, and their images lie in `src`.
-fn entries_of<'a>(src: &'a [u8], records: &[EntryRecord], ids: &'a [CanonicalId]) -> [Entry<'a>; 64]
-    requires { Filled src.now records.now ids.now }
-    ensures { (length result ≡ 64) × (values (take (length records.now) result) ≡ given src.now records.now ids.now) }
+// An entry of no bytes, for places that are not filled yet.
+pub const NO_ENTRY: Entry<'static> = Entry {
+    id: b"",
+    image: b"",
+};
+
+// The bytes of an image, as far as they lie inside.
+fn image_of(src: &[u8], row: EntryRecord) -> &[u8]
+    ensures { result.now ≡ image_of src.now (row_of [] row) }
 {
-    let mut entries = [Entry {
-        id: b"",
-        image: b"",
-    }; 64];
-    for (i, r) in records.iter().enumerate() {
+    let rest = &src[row.image_start.min(src.len())..];
+    &rest[..row.image_len.min(rest.len())]
+}
+
+// Lists the entries of records in the first places, as many as there are IDs and places for, and returns how many these are. Their canonical IDs stand beside
+// the records, and their images lie in `src`.
+fn list_entries<'a>(
+    src: &'a [u8],
+    records: &[EntryRecord],
+    ids: &'a [CanonicalId],
+    entries: &mut [Entry<'a>],
+) -> usize
+    ensures count { result ≡ listed records.now ids.now (length entries.old) }
+    ensures entries_after { values entries.new ≡ over (first_given (listed records.now ids.now (length entries.old)) src.now records.now ids.now) (values entries.old) }
+{
+    let count = records.len().min(ids.len()).min(entries.len());
+    for i in 0..count {
         entries[i] = Entry {
             id: ids[i].text(),
-            image: &src[r.image_start..r.image_start + r.image_len],
+            image: image_of(src, records[i]),
         };
     }
-    entries
+    count
 }
 
 // The same in rising order of the IDs.
@@ -77,13 +97,12 @@ pub fn sorted_entries<'a>(
     src: &'a [u8],
     records: &[EntryRecord],
     ids: &'a [CanonicalId],
-) -> [Entry<'a>; 64]
-    requires { Filled src.now records.now ids.now }
-    ensures { (length result ≡ 64) × (values (take (length records.now) result) ≡ sort_by by_id (given src.now records.now ids.now)) }
+    entries: &mut [Entry<'a>],
+)
+    ensures { values entries.new ≡ over (sort_by by_id (first_given (listed records.now ids.now (length entries.old)) src.now records.now ids.now)) (values entries.old) }
 {
-    let mut entries = entries_of(src, records, ids);
-    rising_order(&mut entries[..records.len()]);
-    entries
+    let count = list_entries(src, records, ids, entries);
+    rising_order(&mut entries[..count]);
 }
 
 // ---- lengths
@@ -178,17 +197,41 @@ fn write_entries(entries: &[Entry], out: &mut [u8]) -> Result<usize, Refusal>
 
 // ---- normalising
 
-// The normal form of a bundle by a reading of its IDs, over `out`, and its length.
+// In scratch: its entries go to `entries`.
+fn normalise_in<'a>(
+    reading: Reading,
+    bundle: &'a [u8],
+    ids: &'a mut [CanonicalId; 64],
+    entries: &mut [Entry<'a>],
+    out: &mut [u8],
+) -> Result<usize, Refusal>
+    requires { count bundle.now ≤ 64 → count bundle.now ≤ length entries.old }
+    ensures value { written_of result ≡ normalise (rules_of reading) bundle.now (length out.old) }
+    ensures out_after { out.new ≡ normalised (rules_of reading) bundle.now out.old }
+{
+    // By reference, so that the rows are not copied.
+    match &bundle_reader::examine(reading, bundle, ids) {
+        Ok(examined) => {
+            let count = examined.count;
+            sorted_entries(bundle, &examined.rows[..count], ids, entries);
+            write_entries(&entries[..count], out)
+        }
+        Err(refusal) => Err(*refusal),
+    }
+}
+
+// The normal form of a bundle by a reading of its IDs, over `out`, and its length. Few entries need few places.
 pub fn normalise_by(reading: Reading, bundle: &[u8], out: &mut [u8]) -> Result<usize, Refusal>
     ensures value { written_of result ≡ normalise (rules_of reading) bundle.now (length out.old) }
     ensures out_after { out.new ≡ normalised (rules_of reading) bundle.now out.old }
 {
     let mut ids = bundle_reader::no_ids();
-    let examined = bundle_reader::examine(reading, bundle, &mut ids)?;
-    let rows = examined.rows;
-    let count = examined.count;
-    let entries = sorted_entries(bundle, &rows[..count], &ids);
-    write_entries(&entries[..count], out)
+    if bundle_reader::is_few(bundle) {
+        let mut few = [NO_ENTRY; 8];
+        return normalise_in(reading, bundle, &mut ids, &mut few, out);
+    }
+    let mut entries = [NO_ENTRY; 64];
+    normalise_in(reading, bundle, &mut ids, &mut entries, out)
 }
 
 // The normal form of a bundle by the general reading, over `out`, and its length.
@@ -214,6 +257,7 @@ pub fn write_bundle(
 {
     let mut forms = bundle_reader::no_ids();
     bundle_reader::examine_records(ids, records, images.len(), &mut forms)?;
-    let entries = entries_of(images, records, &forms);
-    write_entries(&entries[..records.len()], out)
+    let mut entries = [NO_ENTRY; 64];
+    let count = list_entries(images, records, &forms, &mut entries);
+    write_entries(&entries[..count], out)
 }

@@ -2,8 +2,8 @@
 use Prim.Native.Nat.{ℕ, suc, ◌+◌, ◌<◌, ◌≤◌}
 use native.Mathlib.Omega.{arith}
 use mathlib.Core.Path.{◌≡◌, sym, ap, ◌∙◌}
-use mathlib.Core.Bool.{true, false, ◌||◌}
-use mathlib.Core.List.{List, ◌++◌}
+use mathlib.Core.Bool.{true, false, ◌||◌, cond}
+use mathlib.Core.List.{List, [], ◌++◌}
 use lib.ListN.{length, get_or, take, drop, length-take, length-drop}
 use lib.Dec.{ltb, eqb}
 use borrow.Author.Tests.{lt-ltb, le-ltb, ltb-false, eqb-false}
@@ -11,7 +11,7 @@ use Rattle.wire.specs.Limit.{limit}
 use Rattle.wire.specs.Bytes.{same, overwrite}
 use Rattle.wire.specs.First.{any_below}
 use Rattle.wire.specs.Stop.{◌⨾◌, stop_if, stop_when, earlier}
-use Rattle.wire.proofs.Bools.{or_neither}
+use Rattle.wire.proofs.Bools.{by_bool, or_neither}
 use Rattle.wire.proofs.FirstLaws.{none_any}
 use Rattle.wire.proofs.OverwriteLaws.{overwrite_in}
 use Rattle.offload_binary.specs.Binary.{bytes_at, ended, bad_kinds, no_pair, key_in}
@@ -132,3 +132,14 @@ module _ (tags : Tags) (image : List ℕ) (l : List StringPair) (buf out : List 
               ap (λ m. record { number = 0; place = 0; len = m }) e ∙ ap (λ o. o.answer) w,
               q ∙ overwrite_in out 0 (written g) (omega arith) ∙ ap (λ m. written g ++ drop m out) z ∙ ap (λ o. o.out) w,
             )
+
+  -- of a list of more than 32 pairs nothing else is asked
+  many_bad : 32 < length l → bad_pairs buf l ≡ true
+  unfolding bad_pairs
+  many_bad h = rw (lt-ltb _ _ h)
+
+  pub call_many : 32 < length l → write tags image l buf out ≡ output_by (cond (bad_kinds tags.image_kind tags.offload_kind) 15 16) [] out
+  call_many h =
+      by_bool (bad_kinds tags.image_kind tags.offload_kind)
+      (λ t. back 15 (stop-kinds t) ∙ rw t)
+      (λ f. back 16 (stop_pairs f (many_bad h)) ∙ rw f)

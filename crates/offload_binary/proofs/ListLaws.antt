@@ -5,7 +5,7 @@ use native.Mathlib.Numerals.{add-one}
 use mathlib.Core.Path.{◌≡◌, refl, sym, ap, ◌∙◌}
 use mathlib.Core.Bool.{Bool, ◌||◌}
 use mathlib.Core.List.{List, [], ◌∷◌, ◌++◌, append_assoc}
-use lib.ListN.{length, get_or, take, set, replicate}
+use lib.ListN.{length, get_or, take, set, replicate, get_or-append}
 use lib.Seq.{take_at, set_at}
 use Rattle.std.specs.List.{list_any}
 use Rattle.wire.specs.First.{first, any_below}
@@ -30,6 +30,10 @@ any_list p d (x ∷ l) = any_suc (length l) (λ i. p (get_or (x ∷ l) i d)) ∙
 pub take-slots : {A : Type 0} (n : ℕ) (d : A) (l : List A) (k : ℕ) → length l ≡ k → take k (slots n d l) ≡ l
 unfolding slots
 take-slots n d l k e = take_at l (replicate (n - length l) d) k e
+
+pub get_d_slots : {A : Type 0} (n : ℕ) (d : A) (l : List A) (i : ℕ) → i < length l → get_or (slots n d l) i d ≡ get_or l i d
+unfolding slots
+get_d_slots n d l i h = get_or-append l (replicate (n - length l) d) d i h
 
 pub slots_tab : {A : Type 0} (n : ℕ) (d : A) (f : ℕ → A) (i : ℕ) → slots n d (tab i f) ≡ tab i f ++ replicate (n - i) d
 unfolding slots

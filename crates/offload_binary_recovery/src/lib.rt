@@ -1,7 +1,7 @@
 // Recovers the binaries of a damaged sequence: each is copied out, and what is skipped between them is reported.
 #![tactic(auto)]
 
-ghost use Rattle.std.specs.Prelude.{◌≡◌, ◌+◌, ◌^◌, ◌<◌, ◌≤◌, false, map, length, take};
+ghost use Rattle.std.specs.Prelude.{◌≡◌, ◌+◌, ◌^◌, ◌<◌, ◌≤◌, false, MatchOption, map, length, take};
 ghost use Rattle.wire.specs.Bytes.{overwrite};
 ghost use Rattle.wire.specs.Rows.{Added};
 ghost use Rattle.offload_binary.specs.Recovery.{passes as passesAt, gap, taken, skipped, copied, span_row, recover as recoverOf, copied_to, skipped_to};
@@ -42,13 +42,23 @@ impl Finds {
     }
 }
 
-// A binary at p passes 13 to 17. Most positions are told by their first eight bytes.
+// The lowest position from one place on and before another at which a binary's first eight bytes stand. These tell most positions, in a loop of their own.
+fn next_head(s: &[u8], from: usize, to: usize) -> Option<usize>
+    requires { from ≤ to }
+    ensures { MatchOption result (NonePasses s.now from to) (λ q. (from ≤ q) × (q < to) × NonePasses s.now from q) }
+{
+    for p in from..to {
+        if wire_read::word_at::<8>(s, p) == HEAD {
+            return Some(p);
+        }
+    }
+    None
+}
+
+// A binary at p passes 13 to 17.
 fn passes(s: &[u8], p: usize) -> bool
     ensures { result ≡ passesAt s.now p }
 {
-    if wire_read::word_at::<8>(s, p) != HEAD {
-        return false;
-    }
     offload_binary_reader::binary_at(s, p).is_ok()
 }
 
@@ -57,10 +67,13 @@ fn lowest_between(s: &[u8], from: usize, to: usize) -> Option<usize>
     requires { (from ≤ to) × (to ≤ length s.now) }
     ensures { LowestBetween s.now from to result }
 {
-    for p in from..to {
-        if passes(s, p) {
-            return Some(p);
+    let mut p = from;
+    // Not a range: each step goes behind the next head.
+    while let Some(q) = next_head(s, p, to) {
+        if passes(s, q) {
+            return Some(q);
         }
+        p = q + 1;
     }
     None
 }
@@ -71,7 +84,8 @@ fn has_magic(s: &[u8], p: usize) -> bool
     ensures { result ≡ false → NonePasses s.now p (p + 64) }
 {
     let mut hit = false;
-    for at in p..p + BLOCK {
+    for i in 0..BLOCK {
+        let at = p + i;
         hit = hit
             | ((s[at] == 0x10) & (s[at + 1] == 0xFF) & (s[at + 2] == 0x10) & (s[at + 3] == 0xAD));
     }

@@ -1,11 +1,13 @@
 -- Laws of a part written over. Assumes nothing.
 use Prim.Native.Nat.{ℕ, ◌+◌, ◌-◌, ◌≤◌, ◌<◌}
+use native.Mathlib.Nat.{add_assoc}
 use native.Mathlib.Omega.{arith}
 use mathlib.Core.Path.{◌≡◌, refl, sym, ap, ap₂, ◌∙◌, subst}
 use mathlib.Core.List.{List, [], ◌++◌, append_assoc, append-nil}
-use lib.ListN.{length, take, drop, length-append, length-take, length-drop, take-append-drop}
+use lib.ListN.{length, take, drop, get_or, set, length-append, length-take, length-drop, take-append-drop}
 use lib.Dec.{leb}
-use lib.Seq.{length-take-le, take_at, drop_at, drop-append-add, paste, drop-drop, take-length}
+use lib.Seq.{length-take-le, take_at, drop_at, drop-append-add, paste, take-paste, drop-paste, drop-drop, take-add, take-length, get_or-set_same, get_or-set_other}
+use borrow.Author.Count.{below_more}
 use borrow.Author.Tests.{le-leb, lt-leb, leb-true, leb-false}
 use Rattle.wire.specs.Bytes.{overwrite}
 use Rattle.wire.proofs.Bools.{by_bool}
@@ -94,3 +96,18 @@ overwrite-apart d x y a b h k =
 pub paste_all : (out : List ℕ) (at : ℕ) (src : List ℕ) → at + length src ≤ length out → paste out at src (length src) ≡ overwrite out at src
 unfolding overwrite
 paste_all out at src h = simp (le-leb _ _ h, take-length)
+
+-- i bytes were copied, and n more
+pub paste_part : (d : List ℕ) (at : ℕ) (s : List ℕ) (i n : ℕ) → at ≤ length d → i ≤ length s
+    → paste (paste d at s i) (at + i) (drop i s) n ≡ paste d at s (i + n)
+paste_part d at s i n hd hs =
+    let e : drop (at + i + n) (paste d at s i) ≡ drop (at + (i + n)) d =
+    sym (drop-drop n (at + i) (paste d at s i)) ∙ ap (drop n) (drop-paste d at s i hd hs) ∙ drop-drop n (at + i) d ∙ ap (λ (k : ℕ). drop k d) (add_assoc at i n)
+    in
+    rw (take-paste d at s i hd hs, e, take-add i n s, append_assoc (take at d) (take i s) (take n (drop i s)))
+
+-- a store one past what was stored: what holds of each element below k holds of each below k + 1
+pub filled : (buf src : List ℕ) (from k : ℕ) → k < length buf → ((q : ℕ) → q < k → get_or buf q 0 ≡ get_or src (from + q) 0)
+    → (q : ℕ) → q < k + 1 → get_or (set buf k (get_or src (from + k) 0)) q 0 ≡ get_or src (from + q) 0
+filled buf src from k h p =
+    below_more _ k (λ q l. get_or-set_other buf k q (get_or src (from + k) 0) 0 (λ (e : q ≡ k). omega arith) ∙ p q l) (get_or-set_same buf k (get_or src (from + k) 0) 0 h)

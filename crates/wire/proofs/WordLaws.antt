@@ -65,6 +65,9 @@ pub word_none : (s : List ℕ) (at : ℕ) → word 0 s at ≡ 0
 unfolding word word_of
 word_none s at = refl
 
+pub word_byte : (s : List ℕ) (at : ℕ) → word 1 s at ≡ get_or s at 0
+word_byte s at = omega (arith, word_step 0 s at, word_none s (at + 1))
+
 pub word_lt : (n : ℕ) (s : List ℕ) (at : ℕ) → ((k : ℕ) → get_or s k 0 < 256) → word n s at < 256 ^ n
 word_lt zero s at h = omega (arith, word_none s at)
 word_lt (suc n) s at h = omega (arith, word_step n s at, h at, word_lt n s (at + 1) h)

@@ -10,13 +10,13 @@ use Rattle.bundle_lookup.proofs.find_image.Goals as goal
 pub returns-in-Second : goal.returns-in-Second
 returns-in-Second c =
     let a = c.args in
-    let e = c.in-Second.ensures in
+    let e = c.in-Second.ensures.turn in
     c.answer.ensures ∙ found_second id_rules id_rules_lawful a.patch.now a.main.now a.device.now e.0 _ e.1
 
 pub returns-then-stops : goal.returns-then-stops
 returns-then-stops c =
     let a = c.args in
-    let e = c.in-First.ensures in
+    let e = c.in-First.ensures.turn in
     c.answer-then-stops.ensures
     ∙ ap (answer_of 1) e.1
     ∙ found_first id_rules id_rules_lawful a.patch.now a.main.now a.device.now e.0 (ap (λ (p : Picked). is_refused p.number) (sym e.1) ∙ sym c.stops.ensures ∙ c.if-stops.true)
@@ -24,7 +24,7 @@ returns-then-stops c =
 pub returns-in-Err : goal.returns-in-Err
 returns-in-Err c =
     let a = c.args in
-    let e = c.in-First.ensures in
+    let e = c.in-First.ensures.turn in
     c.answer-in-Err.ensures
     ∙ found_main id_rules id_rules_lawful a.patch.now a.main.now a.device.now e.0 (ap (λ (p : Picked). is_refused p.number) (sym e.1) ∙ sym c.stops.ensures ∙ c.if-stops.false) _
     (sym (ap stop_of c.in-Err.is) ∙ e.2)
@@ -32,7 +32,7 @@ returns-in-Err c =
 pub returns-in-Ok : goal.returns-in-Ok
 returns-in-Ok c =
     let a = c.args in
-    let e = c.in-First.ensures in
+    let e = c.in-First.ensures.turn in
     c.answer-in-Ok.ensures
     ∙ ap (answer_of 1) e.1
     ∙ found_patch id_rules id_rules_lawful a.patch.now a.main.now a.device.now e.0 (ap (λ (p : Picked). is_refused p.number) (sym e.1) ∙ sym c.stops.ensures ∙ c.if-stops.false)

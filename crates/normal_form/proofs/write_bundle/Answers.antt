@@ -1,7 +1,6 @@
 use native.Mathlib.Omega.{arith}
-use mathlib.Core.Path.{sym, ap, ◌∙◌}
+use mathlib.Core.Path.{ap, ◌∙◌}
 use lib.ListN.{length}
-use lib.Seq.{length-take-le}
 use Rattle.std.proofs.Common.{Err}
 use Rattle.std.proofs.lemmas.Result.{err_from_is_err_and}
 use Rattle.entry_id.specs.Rules.{id_rules}
@@ -9,7 +8,7 @@ use Rattle.entry_id.proofs.RuleLaws.{id_rules_lawful}
 use Rattle.bundle.specs.Results.{written_of}
 use Rattle.bundle_reader.proofs.ExamineLaws.{records_say}
 use Rattle.normal_form.proofs.GivenLaws.{given_short}
-use Rattle.normal_form.proofs.WriterLaws.{write_refused, written_refused, records-filled, records-given, accepted-answer, accepted-bytes}
+use Rattle.normal_form.proofs.WriterLaws.{write_refused, written_refused, listed-values, accepted-answer, accepted-bytes}
 use Rattle.normal_form.proofs.write_bundle.Goals as goal
 
 pub returns-in_err-examine_records : goal.returns-in_err-examine_records
@@ -22,29 +21,17 @@ returns-in_err-examine_records c =
       out_after = written_refused id_rules a.records.now a.ids.now a.images.now c.in_err-examine_records.field-0.0 x a.out.now;
     }
 
-pub entries_of-entries-requires : goal.entries_of-entries-requires
-entries_of-entries-requires c = let e = c.in_ok-examine_records.ensures in records-filled _ _ _ _ e.stop _ (records_say _ _ _ _ _ _ e.stop e.ids_after e.ids_len)
-
-pub slice_bounds-entries-end : goal.slice_bounds-entries-end
-slice_bounds-entries-end c =
-    let e = c.in_ok-examine_records.ensures in
-    omega (arith, (records_say _ _ _ _ _ _ e.stop e.ids_after e.ids_len).few, c.entries_of-entries.ensures.0)
-
-pub slice_bounds-write_entries-end : goal.slice_bounds-write_entries-end
-slice_bounds-write_entries-end c =
-    let e = c.in_ok-examine_records.ensures in
-    sym (length-take-le _ _ (omega (arith, (records_say _ _ _ _ _ _ e.stop e.ids_after e.ids_len).few, c.entries_of-entries.ensures.0)))
-
 pub write_entries-requires : goal.write_entries-requires
 write_entries-requires c =
     let e = c.in_ok-examine_records.ensures in
-    given_short id_rules id_rules_lawful _ _ _ _ (c.entries_of-entries.ensures.1 ∙ records-given id_rules c.args.records.now _ _ e.stop _ (records_say _ _ _ _ _ _ e.stop e.ids_after e.ids_len))
+    let j = records_say _ _ _ _ _ _ e.stop e.ids_after e.ids_len in
+    given_short id_rules id_rules_lawful _ _ _ _ (listed-values id_rules c.args.records.now _ _ e.stop _ j _ _ _ 64 (omega arith) c.list_entries-count.ensures.count c.list_entries-count.ensures.entries_after)
 
 pub returns : goal.returns
 returns c =
     let e = c.in_ok-examine_records.ensures in
     let j = records_say _ _ _ _ _ _ e.stop e.ids_after e.ids_len in
-    let q = c.entries_of-entries.ensures.1 ∙ records-given id_rules c.args.records.now _ _ e.stop _ j in
+    let q = listed-values id_rules c.args.records.now _ _ e.stop _ j _ _ _ 64 (omega arith) c.list_entries-count.ensures.count c.list_entries-count.ensures.entries_after in
     let w = c.write_entries.ensures in
     let out = c.args.out.now in
     record { value = w.value ∙ accepted-answer _ _ _ _ e.stop _ j _ q (length out); out_after = w.out_after ∙ accepted-bytes _ _ _ _ e.stop _ j _ q out }

@@ -13,7 +13,7 @@ use Rattle.bundle_compare.proofs.find.find_differences.Goals.{in-Some, in_defaul
 use Rattle.bundle_compare.proofs.find.find_differences.Goals as goal
 
 pub loop-i-init : goal.loop-i-init
-loop-i-init c = rw c.new-found.ensures (progress_none c.args.left.now c.args.right.now)
+loop-i-init c = rw c.requires.none (progress_none c.args.left.now c.args.right.now)
 
 pub loop-i-preserved-in-Less : goal.loop-i-preserved-in-Less
 loop-i-preserved-in-Less c =

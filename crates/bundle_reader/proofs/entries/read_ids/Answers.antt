@@ -18,6 +18,7 @@ use Rattle.bundle.specs.Records.{record_at, rows_of}
 use Rattle.bundle_reader.specs.Examined.{form, filled}
 use Rattle.bundle_reader.specs.Slots.{first_found}
 use Rattle.bundle_reader.proofs.FilledLaws.{filled-none, filled_more}
+use Rattle.bundle_reader.proofs.IdLaws.{taken_new, taken_old}
 use Rattle.bundle_reader.proofs.RefusalLaws.{found_none, found_more}
 use Rattle.bundle_reader.proofs.RowLaws.{part_id}
 use Rattle.bundle_reader.proofs.entries.read_ids.Goals as goal
@@ -54,7 +55,7 @@ returns-then-not-read-clause-ids_after c =
     let bad : bad_id R (rows_of s rows l.i) ≡ true =
     ap (λ x. empty (R.canon x)) (sym (part_id s (record_at rows l.i))) ∙ not_no _ (sym c.read.ensures.value ∙ c.if-not-read.true) in
     let e : l.i ≡ first (length rows) (λ k. bad_id R (rows_of s rows k)) = sym (first_is _ _ l.i (omega arith) bad l.invariant.1) in
-    ap (set l.ids l.i) (c.read.ensures.kept c.if-not-read.true)
+    ap (set l.ids l.i) (c.read.ensures.self_after ∙ taken_old _ _ (not_no _ (sym c.read.ensures.value ∙ c.if-not-read.true)))
     ∙ set-get_or l.ids l.i _
     ∙ l.invariant.0
     ∙ ap (λ m. filled c.args.ids.now m (form R (rows_of s rows))) e
@@ -67,7 +68,7 @@ loop-i-preserved c =
     let s = c.args.s.now in
     let rows = c.args.rows.now in
     let id = part_id s (record_at rows l.i) in (
-      filled_more _ l.i _ l.ids _ l.invariant.0 (c.read.ensures.read c.if-not-read.false ∙ ap R.canon id),
+      filled_more _ l.i _ l.ids _ l.invariant.0 (c.read.ensures.self_after ∙ taken_new _ _ (not-true _ (sym c.read.ensures.value ∙ c.if-not-read.false)) ∙ ap R.canon id),
       below_more _ l.i l.invariant.1 (ap (λ x. empty (R.canon x)) (sym id) ∙ not-true _ (sym c.read.ensures.value ∙ c.if-not-read.false)),
       c.or-outside.ensures ∙ ap (option_or l.outside) c.then_some.ensures ∙ found_more l.i _ l.outside _ l.invariant.2 c.outside_row.ensures,
     )
