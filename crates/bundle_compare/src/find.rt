@@ -9,7 +9,6 @@ ghost use Rattle.bundle_compare.specs.Code.{shown, shown_all, ShortIds, Ordered}
 
 use normal_form::Entry;
 use std::cmp::Ordering;
-use std::marker::Model;
 
 // A difference of two bundles: an entry, by its ID, that only one of them has; or one that both have, and the first byte at which the images differ.
 #[derive(Clone, Copy)]
@@ -41,47 +40,17 @@ impl<'a> Difference<'a> {
     }
 }
 
-// The differences found: two bundles have at most 128 entries.
-#[derive(Drop)]
-pub(crate) struct Differences<'a> {
-    list: [Difference<'a>; 128],
-    count: usize,
-}
+// A difference for places that are not filled yet.
+pub(crate) const NO_DIFFERENCE: Difference<'static> = Difference::OnlyLeft(b"");
 
-impl<'a> Model for Differences<'a> {
-    ghost use Rattle.std.specs.Prelude.{◌≡◌, ◌≤◌, List, length, take};
-    ghost use Rattle.bundle_compare.specs.declared.find.Difference.{Difference};
-
-    ghost Value = { List Difference };
-
-    ghost view = { λ s. take s.count s.list };
-
-    ghost invariant = { λ s. (s.count ≤ 128) × (length s.list ≡ 128) };
-}
-
-impl<'a> Differences<'a> {
-    pub(crate) fn new() -> Differences<'a>
-        ensures { result ≡ [] }
-    {
-        Differences {
-            list: [Difference::OnlyLeft(b""); 128],
-            count: 0,
-        }
-    }
-
-    pub(crate) fn push(&mut self, difference: Difference<'a>)
-        requires { length self.old < 128 }
-        ensures { self.new ≡ self.old ++ (difference.entry ∷ []) }
-    {
-        self.list[self.count] = difference;
-        self.count += 1;
-    }
-
-    pub(crate) fn as_slice(&self) -> &[Difference<'a>]
-        ensures { result.now ≡ self.now }
-    {
-        &self.list[..self.count]
-    }
+// Puts a difference behind the first `count`, and returns how many they are then.
+fn add<'a>(found: &mut [Difference<'a>], count: usize, difference: Difference<'a>) -> usize
+    requires { count < length found.old }
+    ensures count { result ≡ count + 1 }
+    ensures found_after { take (count + 1) found.new ≡ take count found.old ++ (difference.entry ∷ []) }
+{
+    found[count] = difference;
+    count + 1
 }
 
 // How two IDs stand in byte order.
@@ -109,19 +78,19 @@ fn first_difference(x: &[u8], y: &[u8]) -> Option<usize>
     Some(n)
 }
 
-// Finds the differences of the entries of the left and of the right, where none was found before.
+// Lists the differences of the entries of the left and of the right in the first places, and returns how many they are.
 pub(crate) fn find_differences<'a>(
     left: &[Entry<'a>],
     right: &[Entry<'a>],
-    found: &mut Differences<'a>,
-)
-    requires none { found.old ≡ [] }
-    requires few { length left.now + length right.now ≤ 128 }
+    found: &mut [Difference<'a>],
+) -> usize
+    requires few { length left.now + length right.now ≤ length found.old }
     requires short { Short left.now × Short right.now }
     requires rising { T (rising_by by_id (values left.now)) × T (rising_by by_id (values right.now)) }
-    ensures value { shown_all found.new ≡ differences_of (values left.now) (values right.now) }
-    ensures fits { (length found.new ≤ 128) × ShortIds found.new }
+    ensures value { shown_all (take result found.new) ≡ differences_of (values left.now) (values right.now) }
+    ensures fits { (result ≤ length left.now + length right.now) × ShortIds (take result found.new) }
 {
+    let mut count = 0;
     let mut i = 0;
     let mut j = 0;
     // Not a range: each list goes at its own pace.
@@ -130,16 +99,16 @@ pub(crate) fn find_differences<'a>(
         let r = right[j];
         match order(l.id, r.id) {
             Ordering::Less => {
-                found.push(Difference::OnlyLeft(l.id));
+                count = add(found, count, Difference::OnlyLeft(l.id));
                 i += 1;
             }
             Ordering::Greater => {
-                found.push(Difference::OnlyRight(r.id));
+                count = add(found, count, Difference::OnlyRight(r.id));
                 j += 1;
             }
             Ordering::Equal => {
                 if let Some(at) = first_difference(l.image, r.image) {
-                    found.push(Difference::Images { id: l.id, at });
+                    count = add(found, count, Difference::Images { id: l.id, at });
                 }
                 i += 1;
                 j += 1;
@@ -147,9 +116,10 @@ pub(crate) fn find_differences<'a>(
         }
     }
     for l in &left[i..] {
-        found.push(Difference::OnlyLeft(l.id));
+        count = add(found, count, Difference::OnlyLeft(l.id));
     }
     for r in &right[j..] {
-        found.push(Difference::OnlyRight(r.id));
+        count = add(found, count, Difference::OnlyRight(r.id));
     }
+    count
 }

@@ -4,13 +4,13 @@
 mod find;
 mod report;
 
-ghost use Rattle.std.specs.Prelude.{◌≡◌, ◌≤◌, List, ℕ, length};
+ghost use Rattle.std.specs.Prelude.{◌≡◌, ◌+◌, ◌≤◌, List, ℕ, length};
 ghost use Rattle.bundle.specs.Table.{count};
 ghost use Rattle.entry_id.specs.Rules.{id_rules};
 ghost use Rattle.bundle.specs.Differences.{report, reported};
 ghost use Rattle.bundle_compare.specs.Code.{Reads, Sorted};
 
-use crate::find::{Differences, find_differences};
+use crate::find::{Difference, NO_DIFFERENCE, find_differences};
 use crate::report::{write_differences, write_refused};
 use bundle_reader::{CanonicalId, is_few, no_ids};
 use entry_id::Reading;
@@ -43,6 +43,22 @@ fn read<'a>(
     }
 }
 
+// The report on bundles with these entries, in the order of their IDs. The differences go to `found`.
+fn report_differences<'a>(
+    left: &[Entry<'a>],
+    right: &[Entry<'a>],
+    found: &mut [Difference<'a>],
+    out: &mut [u8],
+) -> usize
+    requires known { ((a : List ℕ) × Sorted a left.now) × ((b : List ℕ) × Sorted b right.now) }
+    requires room { length left.now + length right.now ≤ length found.old }
+    ensures value { (a b : List ℕ) → Sorted a left.now → Sorted b right.now → result ≡ length (report id_rules a b) }
+    ensures out_after { (a b : List ℕ) → Sorted a left.now → Sorted b right.now → out.new ≡ reported id_rules a b out.old }
+{
+    let count = find_differences(left, right, found);
+    write_differences(&found[..count], out)
+}
+
 // The report, of a right bundle whose entries go to `entries`.
 fn compare_entries<'a>(
     left: &[Entry<'a>],
@@ -58,9 +74,13 @@ fn compare_entries<'a>(
 {
     match read(right, ids, entries) {
         Ok(count) => {
-            let mut found = Differences::new();
-            find_differences(left, &entries[..count], &mut found);
-            write_differences(found.as_slice(), out)
+            let right = &entries[..count];
+            if left.len() + count <= 16 {
+                let mut few = [NO_DIFFERENCE; 16];
+                return report_differences(left, right, &mut few, out);
+            }
+            let mut found = [NO_DIFFERENCE; 128];
+            report_differences(left, right, &mut found, out)
         }
         Err(refusal) => write_refused(b"right", refusal.reason, out),
     }
